@@ -38,6 +38,9 @@ NO_QUOTES = "leave out the quotes: only comments have them"
 ENDS = "ends with the set's name: write ';' or a new line after it"
 TIME = "write seconds, as 90, or parts from days to milliseconds, as 1d2h3m4s500ms"
 
+MARKS = "write each mark that is meant, or a range of them, as 0x10-0x1f"
+IPTABLES = "can't begin a statement: this looks like a file of iptables-save, which has no sets"
+FROM_RULES = "translate the sets that its rules name, and list those: ipset save | ipset-translate restore > sets.nft; pipapo list sets.nft"
 FAMILIES = "the families are ip, ip6, inet, arp, bridge and netdev"
 EXTRA = "leave it out, or begin a new line with it"
 
@@ -49,7 +52,7 @@ MISTAKES = [
     (add("l", "256 . 1"), 2, 22, "'256' doesn't fit field 1 (inet_proto): 256 is greater than 255, the last protocol", PROTO, "Protocol out of range"),
     (add("l", "6 . 4294967296"), 2, 26, "'4294967296' doesn't fit field 2 (mark): 4294967296 is greater than 4294967295, the last mark", MARK, "Value 4294967296 exceeds valid range 0-4294967295"),
     (add("a", "10.0.0.0/33 . 80"), 2, 22, "'10.0.0.0/33' doesn't fit field 1 (ipv4_addr): /33 is longer than an IPv4 address, which has 32 bits", "write a prefix from /0 to /32", "Prefix length 33 is invalid for type of 32 bits width"),
-    (add("a", "10.0.0.0/0.0.0.255 . 80"), 2, 22, "'10.0.0.0/0.0.0.255' doesn't fit field 1 (ipv4_addr): '0.0.0.255' isn't a number of bits", "write a prefix from /0 to /32", "syntax error, unexpected string, expecting number"),
+    (add("a", "10.0.0.0/0.0.0.255 . 80"), 2, 22, "'10.0.0.0/0.0.0.255' doesn't fit field 1 (ipv4_addr): '0.0.0.255' isn't a prefix length", "write a number from 0 to 32 after the '/'", "syntax error, unexpected string, expecting number"),
     (add("v", "2001:db8::/129"), 2, 22, "'2001:db8::/129' doesn't fit field 1 (ipv6_addr): /129 is longer than an IPv6 address, which has 128 bits", "write a prefix from /0 to /128", "Prefix length 129 is invalid for type of 128 bits width"),
     (add("a", "10.0.0.0/255.0.0.0 . 80"), 2, 22, "'10.0.0.0/255.0.0.0' doesn't fit field 1 (ipv4_addr): 255.0.0.0 is a netmask", "write the prefix length: 10.0.0.0/8", "syntax error, unexpected string, expecting number"),
     (add("p", "80-22"), 2, 22, "'80-22' doesn't fit field 1 (inet_service): 80 is greater than 22, and a range begins with the smaller value", "write 22-80", "Range has zero or negative size"),
@@ -79,6 +82,16 @@ MISTAKES = [
     (add("e", "02:00:5e:10:00"), 2, 22, "'02:00:5e:10:00' doesn't fit field 1 (ether_addr): it isn't an Ethernet address", ETHER, "syntax error, unexpected colon, expecting comma or '}'"),
     (add("p", "10-"), 2, 22, "'10-' doesn't fit field 1 (inet_service): an end of the range is missing", "write both ends without blanks, as 10-20", "syntax error, unexpected '}'"),
     (add("p", "80:90"), 2, 22, "'80:90' doesn't fit field 1 (inet_service): a range has '-' between its ends", "write 80-90", "Could not resolve"),
+    (add("p", ":1024"), 2, 22, "':1024' doesn't fit field 1 (inet_service): a range has '-' between its ends", "write 0-1024", "syntax error, unexpected colon"),
+    (add("p", "1024:"), 2, 22, "'1024:' doesn't fit field 1 (inet_service): a range has '-' between its ends", "write 1024-65535", "syntax error, unexpected '}'"),
+    (add("p", "53/udp"), 2, 22, "'53/udp' doesn't fit field 1 (inet_service): a port is a number alone", "write 53; a protocol is a field of its own, of the type inet_proto", "syntax error, unexpected udp, expecting number"),
+    (add("l", "6 . 0x10/0xff"), 2, 26, "'0x10/0xff' doesn't fit field 2 (mark): a mark in a set has no mask", MARKS, "Prefix length 255 is invalid for type of 32 bits width"),
+    (add("l", "6 . 0x10/255"), 2, 26, "'0x10/255' doesn't fit field 2 (mark): a mark in a set has no mask", MARKS, "Prefix length 255 is invalid for type of 32 bits width"),
+    (declare("type mark; elements = { 0x10/8 }"), 2, 42, "'0x10/8' is a prefix, and the set has single values", MARKS, "You must add 'flags interval' to your set declaration if you want to add prefix elements"),
+    (add("a", "0/0 . 80"), 2, 22, "'0/0' isn't a value", "write all addresses as 0.0.0.0/0", "taken"),
+    (declare("type ipv4_addr; elements = { any }"), 2, 47, "'any' isn't a value", "write all addresses as 0.0.0.0/0, and declare the set with 'flags interval'", "Could not resolve"),
+    (declare("type ipv4_addr; flags timeout; elements = { 10.0.0.0/8 }"), 2, 62, "'10.0.0.0/8' is a prefix, and the set has single values", "declare the set with 'flags timeout, interval'", "You must add 'flags interval' to your set declaration if you want to add prefix elements"),
+    (add("v", "fe80::1%eth0"), 2, 29, "'%' is an unexpected character", "leave it out with what follows: an address has no interface", "syntax error, unexpected junk, expecting comma or '}'"),
     (add("p", "10-web"), 2, 22, "'10-web' doesn't fit field 1 (inet_service): 'web' isn't a port", PORT, "Could not resolve"),
     # elements
     (add("p", "80 443"), 2, 25, "'443' can't follow an element", COMMA, "syntax error, unexpected number, expecting comma or '}'"),
@@ -91,7 +104,8 @@ MISTAKES = [
     (add("a", "10.0.0.1 . 80 : accept"), 2, 36, "':' makes a map of the set", "remove it and the value after it: there are no maps", "set is not a map"),
     (add("a", "10.0.0.1 80"), 2, 31, "'80' can't follow a value", "write ' . ' between fields", "syntax error, unexpected number, expecting comma or '}'"),
     (add("p", "80 comment web"), 2, 33, "'web' isn't in quotes", 'quote the comment: comment "web"', "taken"),
-    (add("p", "80 timeout 5s"), 2, 25, "'timeout' needs a set with the flag timeout", "declare the set with 'flags timeout'", "Could not process rule: Invalid argument"),
+    (add("n", "80 timeout 5s"), 2, 25, "'timeout' needs a set with the flag timeout", "declare the set with 'flags timeout'", "Could not process rule: Invalid argument"),
+    (add("p", "80 timeout 5s"), 2, 25, "'timeout' needs a set with the flag timeout", "declare the set with 'flags interval, timeout'", "Could not process rule: Invalid argument"),
     (add("l", "6 . 1 timeout 5s timeout 6s"), 2, 39, "'timeout' is given twice", "leave one of the two out", "taken"),
     (add("l", "6 . 1 timeuot 5s"), 2, 28, "'timeuot' can't follow an element", "did you mean 'timeout'?", "syntax error, unexpected string, expecting comma or '}'"),
     (add("l", "6 . 1 timeout 1w"), 2, 36, "'1w' isn't a time", TIME, "syntax error, unexpected number, expecting string"),
@@ -122,6 +136,7 @@ MISTAKES = [
     (add("l", "6 . 1 timeout 5min"), 2, 36, "'5min' isn't a time", "write 5m", "syntax error, unexpected string, expecting comma or '}'"),
     (declare("type mark; flags timeout; timeout 30 seconds"), 2, 55, "'seconds' can't follow the number of a time", "write 30s", "syntax error, unexpected number, expecting string"),
     (declare("type mark; flags timeout 1h"), 2, 43, "'1h' can't follow a flag", "write the time as an item of its own: flags timeout; timeout 1h", "syntax error, unexpected string, expecting newline or semicolon or comma"),
+    (declare("type mark; flags interval, timeout 1h"), 2, 53, "'1h' can't follow a flag", "write the time as an item of its own: flags interval, timeout; timeout 1h", "syntax error, unexpected string, expecting newline or semicolon or comma"),
     (SETS + "add element ip t p 80\n", 2, 20, "'80' can't follow the set's name", "write the elements in braces after it, as: { 80, 443 }", "syntax error, unexpected number, expecting '{' or '$'"),
     (SETS + "delete element ip t p\n", 2, 22, "the end of the line can't follow the set's name", "write the elements in braces after it, as: { 80, 443 }", "syntax error, unexpected newline, expecting '{' or '$'"),
     (SETS + "add element ip t p { 80\nadd element ip t p { 90 }\n", 3, 1, "'add' can't come in a list", "close the '{' of line 2 with '}' first", "syntax error, unexpected add, expecting comma or '}'"),
@@ -193,6 +208,14 @@ MISTAKES = [
     ("delete table ip t\n", 1, 8, "'table' can't be deleted", "leave it out: a script begins without sets; later 'flush set' removes a set's elements", "Could not process rule: No such file or directory"),
     ("create set ip t s { type mark; }\n", 1, 8, "'set' can't follow 'create'", "write 'add set' to declare a set", "No such file or directory"),
     ("create table ip t\n", 1, 8, "'table' can't follow 'create'", "write 'add table' to declare a table", "taken"),
+    ("delete elements ip t p { 80 }\n", 1, 8, "'elements' can't follow 'delete'", "did you mean 'element'?", "syntax error, unexpected elements"),
+    ("destroy everything\n", 1, 9, "'everything' can't follow 'destroy'", "create, delete and destroy are followed by element", "syntax error, unexpected newline"),
+    ("add p 80\n", 1, 5, "'p' can't follow 'add'", "write 'element', the set, and the elements in braces, as: add element ip t p { 80, 443 }", "syntax error, unexpected number, expecting string"),
+    # files of other programs
+    ("create s hash:net family inet hashsize 1024 maxelem 65536\n", 1, 8, "'s' can't follow 'create': this looks like a file of ipset", "translate the sets into nft's, and list those: ipset-translate restore < FILE > sets.nft; pipapo list sets.nft", "syntax error, unexpected string"),
+    ("*filter\n", 1, 1, "'*' " + IPTABLES, FROM_RULES, "syntax error, unexpected *"),
+    (":INPUT ACCEPT [0:0]\n", 1, 1, "':INPUT' " + IPTABLES, FROM_RULES, "syntax error, unexpected colon"),
+    ("-A INPUT -s 10.0.0.0/8 -j ACCEPT\n", 1, 1, "'-A' " + IPTABLES, FROM_RULES, "syntax error, unexpected -"),
     ("table ip t\n", 1, 11, "the end of the line can't follow the table's name", "write '{' after it, or 'add table' before it", "taken"),
     ("add table ip t { }\n", 1, 16, "'{' can't follow 'add table'", "write 'table' in place of 'add table'", "taken"),
     ("add set ip t {\n", 1, 14, "'{' isn't the name of a set", SET_NAME, "syntax error, unexpected '{', expecting string"),
@@ -238,6 +261,7 @@ MISTAKES = [
     (declare("type tcp dport"), 2, 23, "'tcp' isn't a type", "write inet_service in place of 'tcp dport'", "syntax error, unexpected tcp"),
     (declare("type ip saddr . tcp dport"), 2, 23, "'ip' isn't a type", "write ipv4_addr in place of 'ip saddr'", "syntax error, unexpected ip"),
     (declare("type ipv4_addr . meta mark"), 2, 35, "'meta' isn't a type", "write mark in place of 'meta mark'", "syntax error, unexpected meta"),
+    (declare("type ip.src . tcp.dstport"), 2, 23, "'ip.src' isn't a type", "write ipv4_addr in place of 'ip.src'", "unknown datatype ip.src"),
     (declare("type mark; interval"), 2, 29, "'interval' isn't an item of a set", "write 'flags' before it, as: flags interval", "syntax error, unexpected interval"),
     (declare("type mark; timeout = 1h"), 2, 37, "'=' can't come in this item", "leave it out: only 'elements' has a '=' after it", "syntax error, unexpected '=', expecting string"),
     (declare("type mark; size 65,536"), 2, 36, "',' can't come in a number", "write the digits alone, as 65536", "syntax error, unexpected comma, expecting newline or semicolon"),
@@ -350,8 +374,8 @@ SEVERAL = [
     (
         "table ip t\n{\n\tset s { type mark; }\n}\n",
         [
-            (1, 11, "the end of the line can't follow the table's name", "write '{' after it, or 'add table' before it", False),
-            (2, 1, "'{' can't begin a statement", STATEMENTS, True),
+            (1, 11, "the end of the line can't follow the table's name", "write the '{' of the next line in this one, right after the name", False),
+            (2, 1, "'{' can't begin a statement", "write it in the line of what it opens, as: table ip t {", True),
         ],
     ),
 ]
@@ -364,6 +388,10 @@ OWN_LINES = "write each key in a line of its own, as: ip filter allowed 192.0.2.
 ONE_KEY = "'get' answers one key: write the keys into a file, one in each line, and then: pipapo run SCRIPT FILE"
 AT_FIRST = "write the moment before the script, as: pipapo get --at 500 SCRIPT .."
 NO_WORDS = "end the key before it: a key has the values alone"
+NAMES_P = "write the set's family, table and name, as: ip t p"
+NO_FIELDS = "isn't the name of a set: a key doesn't name fields of a packet"
+TCPDUMP = "isn't the name of a set: this looks like a line of tcpdump"
+FROM_CAPTURE = KEY_FORM + "; 'pipapo capture' takes packets from a capture"
 NO_VERDICT = "end the key before it: a key has the values alone, and 'pipapo judge' prints the verdict"
 BLANKS = "write a '.' with blanks around it between fields, as 192.0.2.1 . 80"
 KEY_LINE = "write a line [FAMILY] TABLE SET VALUE . VALUE .., with one value for each field, or 'at' MOMENT, or 'round'"
@@ -381,7 +409,18 @@ KEY_MISTAKES = [
     ("ip t v 10.0.0.1", 8, "'10.0.0.1' doesn't fit field 1 (ipv6_addr): it is an IPv4 address", IPV6),
     ("t l TCP . 1", 5, "'TCP' doesn't fit field 1 (inet_proto): it isn't a protocol", PROTO),
     ("ip t q 80", 6, "'q' isn't a set of the script", "the script's sets are ip t p, ip t a, ip t n, ip t v, ip t l, ip t e"),
-    ("p 80", 3, "'80' isn't a set of the script", "did you mean 'ip t p'?"),
+    ("p 80", 3, "'80' isn't the name of a set: 'p' is at the place of a table", NAMES_P),
+    ("ip p 80", 6, "'80' isn't the name of a set: 'p' is at the place of a table", NAMES_P),
+    ("ip saddr 10.0.0.1 tcp dport 80", 10, "'10.0.0.1' " + NO_FIELDS, KEY_FORM),
+    ("tcp dport 80", 5, "'dport' " + NO_FIELDS, KEY_FORM),
+    ("> ip t p 80", 1, "'>' is an unexpected character", KEY_FORM),
+    ("ip t p > 1024", 8, "'>' is an unexpected character", ONE_VALUE),
+    ("ip t p 80 > out.txt", 11, "'>' is an unexpected character", NO_WORDS),
+    ("IP 10.0.0.1.1234 > 10.0.0.2.80: Flags [S]", 4, "'10.0.0.1.1234' " + TCPDUMP, FROM_CAPTURE),
+    ("12:00:00.000000 IP 10.0.0.1.1234 > 10.0.0.2.80: Flags [S]", 1, "'12:00:00.000000' " + TCPDUMP, FROM_CAPTURE),
+    ("sleep 1000", 7, "'1000' isn't a set of the script", "write 'at' and the moment of the keys after it in milliseconds, as: at 500"),
+    ("ip t p :1024", 8, "':1024' doesn't fit field 1 (inet_service): it is a range", ONE_VALUE),
+    ("ip t l 6 . 0x10/0xff", 12, "'0x10/0xff' doesn't fit field 2 (mark): a key has no mask", ONE_VALUE),
     ("inet t p 80", 8, "'p' isn't a set of the script", "did you mean 'ip t p'?"),
     ("ipv4 t p 80", 6, "'t' can't come here, since 'ipv4' isn't a family", "did you mean 'ip'?"),
     ("ip t @p 80", 6, "'@' is an unexpected character", "write the set's name without '@'"),
@@ -474,7 +513,7 @@ KEY_MISTAKES = [
     ("ip t a 10.0.0.1 at 5", 17, "'at' ends the key after 1 field", PAIR),
     ("ip t a 10.0.0.1. 80", 8, "'10.0.0.1.' doesn't fit field 1 (ipv4_addr): it is two fields in one word", BLANKS),
     ("ip t a 10.0.0.1/443", 8, "'10.0.0.1/443' doesn't fit field 1 (ipv4_addr): it is two fields in one word", BLANKS),
-    ("ip t p 80/tcp", 8, "'80/tcp' doesn't fit field 1 (inet_service): it isn't a port", PORT),
+    ("ip t p 80/tcp", 8, "'80/tcp' doesn't fit field 1 (inet_service): a port is a number alone", "write 80; a protocol is a field of its own, of the type inet_proto"),
     ("ip t p -80", 8, "'-80' doesn't fit field 1 (inet_service): it isn't a port", PORT),
     ("ip t p 80.", 8, "'80.' doesn't fit field 1 (inet_service): it isn't a port", PORT),
     # moments and sections
@@ -485,7 +524,7 @@ KEY_MISTAKES = [
     ("AT 5", 4, "'5' isn't a set of the script", "write a moment with 'at' in lower case, as: at 500"),
     ("round 2", 7, "'2' can't follow 'round'", "write 'round' alone in its line"),
     ("10.0.0.1 . 80", 1, "'10.0.0.1' can't come here", KEY_LINE),
-    ("ip t", 5, "the end of the line can't come here", KEY_LINE),
+    ("ip t", 5, "the end of the line comes too early", "complete the line: [FAMILY] TABLE SET VALUE . VALUE .."),
 ]
 
 # the words of the key of a `get` on SETS, the column of the bad token, what is wrong, and what to do
@@ -497,7 +536,10 @@ GET_MISTAKES = [
     ("ip t a 80 . 10.0.0.1", 8, "'80' doesn't fit field 1 (ipv4_addr): it fits field 2 (inet_service)", PAIR),
     ("ip t p 80-90", 8, "'80-90' is a range", ONE_VALUE),
     ("ip t q 80", 6, "'q' isn't a set of the script", "the script's sets are ip t p, ip t a, ip t n, ip t v, ip t l, ip t e"),
-    ("p 80", 3, "'80' isn't a set of the script", "did you mean 'ip t p'?"),
+    ("p 80", 3, "'80' isn't the name of a set: 'p' is at the place of a table", NAMES_P),
+    ("ip saddr 10.0.0.1 tcp dport 80", 10, "'10.0.0.1' " + NO_FIELDS, KEY_FORM),
+    ("sleep 1000", 7, "'1000' isn't a set of the script", AT_FIRST),
+    ("ip t", 6, "the end of the text comes too early", "write [FAMILY] TABLE SET VALUE . VALUE .., with one value for each field"),
     ("ip t @p 80", 6, "'@' is an unexpected character", "write the set's name without '@'"),
     ("ip t p { 80 }", 8, "'{' can't come here: a key has no braces", KEY_FORM),
     ("add element ip t p { 80 }", 5, "'element' " + NO_SET_NAME, KEY_FORM),
@@ -552,7 +594,9 @@ RULES_MISTAKES = [
     ("chain web { }\nchain ssh { }\nchain main { jump other }\npolicy drop\n", 3, 19, "'other' isn't a chain that is declared before this place", "the chains before this one are web, ssh"),
     ("chain main { jump main }\npolicy drop\n", 1, 19, "'main' is the name of this chain itself", "jump to a chain that is declared before this one"),
     ("chain web { }\nchain main { jump }\npolicy drop\n", 2, 19, "'}' isn't the name of a chain", "write the name of an earlier chain after 'jump'"),
-    ("chain web { }\nchain main { goto web }\npolicy drop\n", 2, 14, "'goto' can't come here", "did you mean 'jump'?"),
+    ("chain web { }\nchain main { goto web }\npolicy drop\n", 2, 14, "'goto' can't come here", "write two rules with the same tests: one with 'jump CHAIN', and after it one with 'return'"),
+    ("chain main { in ip t p continue }\npolicy drop\n", 1, 24, "'continue' can't come here", "leave the whole rule out: a packet goes on with the next rule by itself"),
+    ("chain web { }\nchain main { jump web in ip t p accept }\npolicy drop\n", 2, 23, "'in' can't follow 'jump web'", "end the rule before it, with ';' or a new line"),
     ("chain web { }\n\nchain web { }\npolicy drop\n", 3, 7, "'web' is declared twice, first in line 1", "give this chain another name, or write its rules into the first one"),
     ("chain { in ip t p accept }\npolicy drop\n", 1, 7, "'{' isn't the name of a chain", CHAIN_NAME),
     ("chain 1st { in ip t p accept }\npolicy drop\n", 1, 7, "'1st' isn't the name of a chain", CHAIN_NAME),
@@ -574,16 +618,19 @@ RULES_MISTAKES = [
     ("chain main { in ip t p, in ip t n accept }\npolicy drop\n", 1, 23, "',' can't come between tests", "write the tests one after another if a packet has to meet all, or a rule for each if one is enough"),
     ("chain main { in ip t p and in ip t n accept }\npolicy drop\n", 1, 24, "'and' can't come between tests", "write the tests one after another if a packet has to meet all, or a rule for each if one is enough"),
     ("chain main { in ip t p && in ip t n accept }\npolicy drop\n", 1, 24, "'&' is an unexpected character", "write the tests one after another if a packet has to meet all, or a rule for each if one is enough"),
+    ("chain main { in { ip t p, ip t n } accept }\npolicy drop\n", 1, 17, "'{' can't come here: a test names one set", "write a rule for each set, as: in ip t p accept; in ip t s accept"),
+    ("chain main { out { ip t p, ip t n } drop }\npolicy drop\n", 1, 18, "'{' can't come here: a test names one set", "write a test for each set, one after another, as: out ip t p out ip t s accept"),
+    ("chain main { in (ip t p) accept }\npolicy drop\n", 1, 17, "'(' is an unexpected character", "leave the brackets out: a test is in or out, and the set's family, table and name, as: in ip t s"),
     ("chain main { in set ip t p accept }\npolicy drop\n", 1, 21, "'ip' isn't the name of a set", "leave out 'set': a test is in or out, and the set's family, table and name, as: in ip t s"),
     ("chain main { tcp dport @p accept }\npolicy drop\n", 1, 14, "'tcp' can't come here: a rule names no fields of a packet", "test a set, by its family, table and name, as: in ip t s accept"),
     ("chain main { ip saddr . tcp dport @a accept }\npolicy drop\n", 1, 14, "'ip' can't come here: a rule names no fields of a packet", "test a set, by its family, table and name, as: in ip t s accept"),
     ("chain main { " + "in ip t p " * 5 + "accept }\npolicy drop\n", 1, 54, "'in' is one test too many", "a rule has 4 tests at most"),
     # acts, and the ends of rules
-    ("chain main { in ip t p }\npolicy drop\n", 1, 24, "'}' can't end a rule without an act", NO_ACT),
-    ("chain main { in ip t p\naccept }\npolicy drop\n", 1, 23, "the end of the line can't end a rule without an act", NO_ACT),
-    ("chain main { in ip t p accept in ip t n drop }\npolicy drop\n", 1, 31, "'in' can't follow the act of a rule", "end the rule before it, with ';' or a new line"),
-    ("chain main { in ip t p accept comment }\npolicy drop\n", 1, 31, "'comment' can't follow the act of a rule", "leave it out: a rule ends with its act"),
-    ("chain main { in ip t p counter accept }\npolicy drop\n", 1, 24, "'counter' can't come here", "leave it out: a rule has only tests of sets and one act"),
+    ("chain main { in ip t p }\npolicy drop\n", 1, 24, "'}' ends a rule that decides nothing", NO_ACT),
+    ("chain main { in ip t p\naccept }\npolicy drop\n", 1, 23, "the end of the line ends a rule that decides nothing", NO_ACT),
+    ("chain main { in ip t p accept in ip t n drop }\npolicy drop\n", 1, 31, "'in' can't follow 'accept'", "end the rule before it, with ';' or a new line"),
+    ("chain main { in ip t p accept comment }\npolicy drop\n", 1, 31, "'comment' can't follow 'accept'", "leave it out: a rule ends with accept, drop, return or jump CHAIN"),
+    ("chain main { in ip t p counter accept }\npolicy drop\n", 1, 24, "'counter' can't come here", "leave it out: a rule has only tests of sets, and then accept, drop, return or jump CHAIN"),
     ("chain main { in ip t p DROP }\npolicy drop\n", 1, 24, "'DROP' can't come here", "did you mean 'drop'?"),
     ("chain main { in ip t p allow }\npolicy drop\n", 1, 24, "'allow' can't come here", "did you mean 'accept'?"),
     ("chain main {\n" + "in ip t p accept\n" * 65 + "}\npolicy drop\n", 66, 1, "'in' begins one rule too many", "a rules file has 64 rules at most"),
@@ -617,6 +664,11 @@ PLAN_MISTAKES = [
     ("ip t a ip_saddr . proto\n", 1, 19, "'proto' doesn't fit the type of this field", "write sport or dport " + PAIR_SELECTOR),
     ("ip t a saddr . dport\n", 1, 8, "'saddr' isn't a selector", "write ip_saddr or ip_daddr " + PAIR_SELECTOR),
     ("ip t a ip_saddr.dport\n", 1, 8, "'ip_saddr.dport' isn't a selector", "write '.' with blanks around it between selectors, as: ip_saddr . dport"),
+    ("ip t a ip.src . tcp.dstport\n", 1, 8, "'ip.src' isn't a selector", "write ip_saddr in place of 'ip.src'"),
+    ("ip t a ip_saddr . tcp.dstport\n", 1, 19, "'tcp.dstport' isn't a selector", "write dport in place of 'tcp.dstport'"),
+    ("ip t e eth.src\n", 1, 8, "'eth.src' isn't a selector", "write ether_saddr in place of 'eth.src'"),
+    ("ip t a ip.addr . dport\n", 1, 8, "'ip.addr' isn't a selector", "write ip_saddr or ip_daddr " + PAIR_SELECTOR),
+    ("ip.src . tcp.dstport\n", 1, 8, "'.' isn't the name of a set", SET_FIRST + "ip t s ip_saddr . dport"),
     ("ip t p dprt\n", 1, 8, "'dprt' isn't a selector", "did you mean 'dport'?"),
     ("ip t p DPORT\n", 1, 8, "'DPORT' isn't a selector", "did you mean 'dport'?"),
     ("ip t l proto . mark\n", 1, 16, "'mark' can't come here: no packet of a capture has a mark", "name a set without marks: this set's type is inet_proto . mark"),

@@ -163,6 +163,7 @@ def cases(shown):
         yield ["list", name], f"{name}: No such file or directory\nhelp: {FROM_NFT}\n", f"pipapo: read fault: {name}", 5
     yield ["sets", "ruleset"], f"ruleset: No such file or directory\nhelp: {FROM_NFT}\n", "pipapo: read fault: ruleset", 5
     yield ["get", "element", "ip", "t", "p", "{", "80", "}"], f"element: No such file or directory\nhelp: {FROM_ELEMENT}\n", "pipapo: read fault: element", 5
+    yield ["get", "ip", "t", "p", "80"], "ip: No such file or directory\nhelp: a script's file comes before the set, as: pipapo get SCRIPT [FAMILY] TABLE SET VALUE\n", "pipapo: read fault: ip", 5
     yield ["list", "help"], f"help: No such file or directory\nhelp: {HELP_PAGE}\n", "pipapo: read fault: help", 5
     yield [*run, "folder"], "folder: Is a directory\n", "pipapo: read fault: folder", 5
     yield [*run, "/proc/self/mem"], "/proc/self/mem: it can't be read\n", "pipapo: read fault: /proc/self/mem", 5

@@ -18,6 +18,7 @@ use crate::help::{
 use crate::key_places::KeyPlace;
 use crate::keys::{KeyFault, explain_key, type_item};
 use crate::note::Note;
+use crate::other_tools::{explain_other_tool, other_tool};
 use crate::plans::explain_plan;
 use crate::rest::is_caused;
 use crate::rules::explain_rules;
@@ -50,6 +51,9 @@ fn token_note(alloc: Global, bad: BadToken, cut: Cut<'_>) -> Result<Note, Memory
 /// Explains the bad token of a script.
 fn explain_in_script(said: &mut Explained, fault: Fault<'_>, reason: Reason) -> Result<(), Memory> {
     let is_name = fault.around.level == Level::Statement && !fault.around.part.is_empty();
+    if let Some(tool) = other_tool(fault) {
+        return explain_other_tool(said, tool);
+    }
     match reason {
         Reason::Character if is_name && fault.token.first() == Some(&b'@') => {
             explain_reference(said)
@@ -139,7 +143,9 @@ fn explain_in_key(
     cut: Cut<'_>,
 ) -> Result<(), Memory> {
     match other_family(schema, cut.front) {
-        Some(word) if bad.reason == Reason::Set => return explain_family(said, word),
+        Some(word) if bad.reason == Reason::Set && !cut.line.contains(&b'>') => {
+            return explain_family(said, word);
+        }
         _ => {}
     }
     let type_item = type_item(said.alloc, schema, cut.line)?;

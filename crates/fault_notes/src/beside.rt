@@ -33,7 +33,7 @@ pub(crate) fn set_of_name<'a>(schema: &'a Schema, name: &[u8]) -> Option<&'a Set
 }
 
 /// Whether a set of a script is in a table of this name.
-fn has_table(schema: &Schema, table: &[u8]) -> bool {
+pub(crate) fn has_table(schema: &Schema, table: &[u8]) -> bool {
     for set in schema.as_slice() {
         if set.table.as_slice() == table {
             return true;

@@ -80,6 +80,10 @@ fn for_left_out(word: &[u8]) -> &'static [u8] {
     b"write all values as a prefix or a range, as 0.0.0.0/0"
 }
 
+/// What to do with the interface in an address, as in `fe80::1%eth0`.
+pub(crate) const NO_INTERFACE: &[u8] =
+    b"leave it out with what follows: an address has no interface";
+
 /// What to do about a token that begins with this byte, which begins no word and no string.
 fn for_character(first: Option<&u8>) -> &'static [u8] {
     match first {
@@ -93,6 +97,7 @@ fn for_character(first: Option<&u8>) -> &'static [u8] {
             b"write the values that the set holds: there is no negation and no comparison",
         Some(b'|' | b'&' | b'^' | b'+') => b"write the value itself: there are no operators",
         Some(b'\\') => b"end the line right after it, or leave it out",
+        Some(b'%') => NO_INTERFACE,
         Some(128..=255) => b"write ASCII: other characters may be in strings and comments only",
         _ => b"words have letters, digits and '_', '.', '/', ':', '-'; a comment begins with '#'",
     }
@@ -169,6 +174,7 @@ pub(crate) fn explain_plainly(
             b"name a set that the script declares, by [FAMILY] TABLE SET",
         ),
         Reason::Number => said.say(b" isn't a size", b"write a number from 1 to 4294967295"),
+        Reason::Statement if token.is_empty() => said.say(b" comes too early", for_end(kind)),
         Reason::Value | Reason::TypeWord | Reason::Statement => said.say(
             b" can't come here",
             for_statement(kind),

@@ -1,6 +1,6 @@
 //! Explains a token that can't come at its place of a key, such as braces, a second key, or a word of an element.
 use crate::explained::Explained;
-use crate::help::{TextKind, explain_plainly};
+use crate::help::{NO_INTERFACE, TextKind, explain_plainly};
 use crate::key_values::ONE_VALUE;
 use crate::values::types_of;
 use crate::words::{count_of, is_number, is_one_of, word_at};
@@ -13,7 +13,7 @@ pub(crate) const KEY_FORM: &[u8] =
     b"write the set and the values alone, as: ip filter allowed 192.0.2.1 . 80";
 
 /// What to do with words after a key.
-const VALUES_ALONE: &[u8] = b"end the key before it: a key has the values alone";
+pub(crate) const VALUES_ALONE: &[u8] = b"end the key before it: a key has the values alone";
 
 /// The words with which a rule decides on a packet.
 const VERDICTS: [&[u8]; 8] = [
@@ -53,7 +53,7 @@ impl KeyPlace {
     }
 
     /// What to do with a moment.
-    fn for_moment(self) -> &'static [u8] {
+    pub(crate) fn for_moment(self) -> &'static [u8] {
         match self {
             KeyPlace::File => b"write the moment in a line of its own before the key, as: at 500",
             KeyPlace::Get =>
@@ -203,8 +203,8 @@ pub(crate) fn explain_character(said: &mut Explained, token: &[u8]) -> Result<()
         Some(b'"' | b'\'') => b"leave out the quotes: a value has none",
         Some(b'[' | b']' | b'(' | b')') =>
             b"leave the brackets out, as: ip filter allowed 192.0.2.1 . 80",
-        Some(b'!' | b'<' | b'>' | b'|' | b'@') => ONE_VALUE,
-        Some(b'%') => b"leave it out with what follows: an address has no interface",
+        Some(b'!' | b'|' | b'@') => ONE_VALUE,
+        Some(b'%') => NO_INTERFACE,
         _ => return explain_plainly(said, TextKind::Keys, Reason::Character, token),
     };
     said.say(b" is an unexpected character", help)
@@ -220,7 +220,11 @@ pub(crate) fn explain_line(
     match place {
         KeyPlace::File => explain_plainly(said, TextKind::Keys, reason, token),
         KeyPlace::Get => said.say(
-            b" can't come here",
+            if token.is_empty() {
+                b" comes too early"
+            } else {
+                b" can't come here"
+            },
             b"write [FAMILY] TABLE SET VALUE . VALUE .., with one value for each field",
         ),
     }

@@ -157,6 +157,8 @@ impl Explained {
             WrongValue::NoEnd | WrongValue::NoPrefix(_) | WrongValue::NoValue([.., b'.']) => {
                 self.no_value(field.kind)
             }
+            WrongValue::Mask => self.say(b"a key has no mask", ONE_VALUE),
+            WrongValue::Colon(_, _) => self.say(b"it is a range", ONE_VALUE),
             _ => self.wrong_value(field, wrong),
         }
     }

@@ -1,21 +1,24 @@
 //! Explains a word of a key by the types of the set that its line names.
 use crate::around::set_named;
+use crate::beside::{has_table, set_of_name};
 use crate::content::{begins_a_statement, is_element_line, is_family};
 use crate::explained::Explained;
 use crate::help::{explain_reference, explain_slashes, is_slashes};
 use crate::key_places::{
-    KEY_FORM, KeyPlace, explain_after_key, explain_after_moment, explain_after_name,
+    KEY_FORM, KeyPlace, VALUES_ALONE, explain_after_key, explain_after_moment, explain_after_name,
     explain_after_value, explain_brace, explain_character, explain_key_moment, explain_line,
     explain_no_dot, explain_second_dot,
 };
 use crate::key_values::{ONE_VALUE, explain_key_string, explain_key_value};
 use crate::refused::{is_same, words_of};
+use crate::selectors::field_named;
 use crate::sets::explain_unknown;
+use crate::source::shortened;
 use crate::syntax::explain_fields;
 use crate::values::word_of;
-use crate::words::{count_of, is_number, kind_at, last_word, word_at};
+use crate::words::{count_of, is_number, is_one_of, kind_at, last_word, word_at};
 use addr_text::read_value;
-use set_model::{Kind, Memory, Schema};
+use set_model::{Kind, Memory, Schema, SetDecl};
 use std::alloc::Global;
 use text_pieces::{Piece, append_pieces};
 use token_forms::Reason;
@@ -160,15 +163,21 @@ fn explain_place(
     }
 }
 
-/// The word that is meant as the name of a set: the bad token, or the word before it if a set has that name.
-fn named_by<'a>(schema: &Schema, fault: KeyFault<'a>) -> &'a [u8] {
-    let before = last_word(fault.before);
-    for set in schema.as_slice() {
-        if set.name.as_slice() == before {
-            return before;
-        }
-    }
-    fault.token
+/// Explains a token after a word that names a set, and is at the place of a table.
+fn explain_no_table(said: &mut Explained, set: &SetDecl) -> Result<(), Memory> {
+    said.wrong.pieces(
+        said.alloc,
+        &[
+            Piece::Word(b" isn't the name of a set: '"),
+            Piece::Word(shortened(set.name.as_slice())),
+            Piece::Word(b"' is at the place of a table"),
+        ],
+    )?;
+    said.add_set(
+        b"write the set's family, table and name, as: ",
+        words_of(set),
+        b"",
+    )
 }
 
 /// Whether a line begins as a statement does, or with another word before a family.
@@ -177,12 +186,54 @@ fn is_statement_line(line: &[u8]) -> bool {
     begins_a_statement(first) || is_family(word_at(line, 1)) || is_element_line(line)
 }
 
-/// Whether a word is `at` in other letters, or with a `:`.
-fn is_like_at(word: &[u8]) -> bool {
-    matches!(
+/// What to do with a number after this word, if the word is meant as `at`: `at` in other letters, with a `:`, or another
+/// word for it.
+fn for_moment_after(word: &[u8], place: KeyPlace) -> Option<&'static [u8]> {
+    let is_like_at = matches!(
         word,
         [b'a' | b'A', b't' | b'T'] | [b'a' | b'A', b't' | b'T', b':']
+    );
+    let is_wait = is_one_of(word, &[b"sleep", b"wait", b"time"]);
+    match place {
+        KeyPlace::Get if is_like_at || is_wait => Some(place.for_moment()),
+        KeyPlace::File if is_like_at => {
+            Some(b"write a moment with 'at' in lower case, as: at 500")
+        }
+        KeyPlace::File if is_wait => {
+            Some(b"write 'at' and the moment of the keys after it in milliseconds, as: at 500")
+        }
+        _ => None,
+    }
+}
+
+/// Whether a line begins with words of nft's rules that name a field of a packet, as `ip saddr`.
+fn names_a_field(line: &[u8]) -> bool {
+    field_named(word_at(line, 0), word_at(line, 1)).is_some()
+}
+
+/// Explains a word before the set of a line that has a `>`, as tcpdump prints it between addresses.
+fn explain_arrow(said: &mut Explained) -> Result<(), Memory> {
+    said.say(
+        b" isn't the name of a set: this looks like a line of tcpdump",
+        b"write the set and the values alone, as: ip filter allowed 192.0.2.1 . 80; 'pipapo capture' takes packets from a capture",
     )
+}
+
+/// Explains a `<` or a `>`.
+fn explain_comparison(
+    said: &mut Explained,
+    type_item: &[u8],
+    fault: KeyFault<'_>,
+) -> Result<(), Memory> {
+    let has_more = kind_at(type_item, fields_before(fault.before)).is_some();
+    let help = if is_in_name(fault.before) {
+        KEY_FORM
+    } else if has_more {
+        ONE_VALUE
+    } else {
+        VALUES_ALONE
+    };
+    said.say(b" is an unexpected character", help)
 }
 
 /// Explains a word that doesn't name a set of the script.
@@ -193,6 +244,15 @@ fn explain_set_name(
 ) -> Result<(), Memory> {
     let first = word_at(fault.before, 0);
     let is_second = word_at(fault.before, 1).is_empty();
+    if fault.line.contains(&b'>') {
+        return explain_arrow(said);
+    }
+    if names_a_field(fault.line) {
+        return said.say(
+            b" isn't the name of a set: a key doesn't name fields of a packet",
+            KEY_FORM,
+        );
+    }
     if is_statement_line(fault.line) {
         return said.say(
             b" isn't the name of a set: a key has no words of a statement",
@@ -202,13 +262,17 @@ fn explain_set_name(
     if is_second && is_number(fault.token) && first == b"round".as_slice() {
         return said.say(b" can't follow 'round'", b"write 'round' alone in its line");
     }
-    if is_second && is_number(fault.token) && is_like_at(first) {
-        return said.say(
-            b" isn't a set of the script",
-            b"write a moment with 'at' in lower case, as: at 500",
-        );
+    match for_moment_after(first, fault.place) {
+        Some(help) if is_second && is_number(fault.token) => {
+            return said.say(b" isn't a set of the script", help);
+        }
+        _ => {}
     }
-    explain_unknown(said, schema, named_by(schema, fault))
+    let before = last_word(fault.before);
+    match set_of_name(schema, before) {
+        Some(set) if !has_table(schema, before) => explain_no_table(said, set),
+        _ => explain_unknown(said, schema, fault.token),
+    }
 }
 
 /// Explains a bad token of a key, by the types of its line's set.
@@ -219,6 +283,9 @@ pub(crate) fn explain_key(
     fault: KeyFault<'_>,
 ) -> Result<(), Memory> {
     match fault.reason {
+        Reason::Statement if fault.line.contains(&b'>') && is_in_name(fault.before) => {
+            explain_arrow(said)
+        }
         Reason::Value if fault.token == b".".as_slice() => {
             if fields_before(fault.before) == 0 {
                 explain_after_name(said, type_item)
@@ -234,6 +301,9 @@ pub(crate) fn explain_key(
         Reason::Moment => explain_key_moment(said, fault.place),
         Reason::Character if fault.token.first() == Some(&b'@') && is_in_name(fault.before) => {
             explain_reference(said)
+        }
+        Reason::Character if matches!(fault.token.first(), Some(b'<' | b'>')) => {
+            explain_comparison(said, type_item, fault)
         }
         Reason::Character => explain_character(said, fault.token),
         Reason::LeftOut if fault.token == b"*".as_slice() => {

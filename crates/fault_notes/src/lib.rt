@@ -48,6 +48,7 @@ mod key_values;
 mod keys;
 mod near;
 mod note;
+mod other_tools;
 mod plans;
 mod refusals;
 mod refused;

@@ -5,7 +5,7 @@ use crate::help::{SELECTORS, TextKind, explain_plainly, explain_reference};
 use crate::keys::{fields_before, is_in_name, type_item};
 use crate::near::nearest;
 use crate::refused::words_of;
-use crate::selectors::{field_named, selector_of, selectors_of};
+use crate::selectors::{field_in_wireshark, field_named, selector_of, selectors_of};
 use crate::syntax::explain_fields;
 use crate::values::types_of;
 use crate::words::{bytes_of, is_one_of, kind_at, last_word, word_at};
@@ -93,6 +93,35 @@ fn explain_at_sign(said: &mut Explained, schema: &Schema, fault: Beside<'_>) -> 
     explain_form(said, schema, name)
 }
 
+/// Whether a word is a selector, and another one after a `.`.
+fn is_joined(word: &[u8]) -> bool {
+    match word.iter().position(|byte| *byte == b'.') {
+        Some(place) => is_one_of(&word[..place], &SELECTORS),
+        None => false,
+    }
+}
+
+/// Explains one or two words of another program that name a packet's field. The second one may be empty.
+fn tell_selector<'x>(
+    said: &mut Explained,
+    selector: &'x [u8],
+    words: (&'x [u8], &'x [u8]),
+) -> Result<(), Memory> {
+    let (word, next) = words;
+    said.tell(
+        &[Piece::Word(b" isn't a selector")],
+        &[
+            Piece::Word(b"write "),
+            Piece::Word(selector),
+            Piece::Word(b" in place of '"),
+            Piece::Word(word),
+            Piece::Word(if next.is_empty() { b"" } else { b" " }),
+            Piece::Word(next),
+            Piece::Word(b"'"),
+        ],
+    )
+}
+
 /// Explains a word in the place of a selector of this type.
 fn explain_selector(
     said: &mut Explained,
@@ -120,7 +149,7 @@ fn explain_selector(
             &[Piece::Word(b" is a value, and a selector is expected")],
             &selectors,
         ),
-        _ if word.len() > 1 && word.contains(&b'.') => said.say(
+        _ if is_joined(word) => said.say(
             b" isn't a selector",
             b"write '.' with blanks around it between selectors, as: ip_saddr . dport",
         ),
@@ -128,19 +157,16 @@ fn explain_selector(
             &[Piece::Word(b" doesn't fit the type of this field")],
             &selectors,
         ),
-        _ => match field_named(word, next) {
-            Some(field) if field.kind == kind => said.tell(
-                &[Piece::Word(b" isn't a selector")],
-                &[
-                    Piece::Word(b"write "),
-                    Piece::Word(field.selector),
-                    Piece::Word(b" in place of '"),
-                    Piece::Word(word),
-                    Piece::Word(b" "),
-                    Piece::Word(next),
-                    Piece::Word(b"'"),
-                ],
-            ),
+        _ => match (field_named(word, next), field_in_wireshark(word)) {
+            (Some(field), _) if field.kind == kind => {
+                tell_selector(said, field.selector, (word, next))
+            }
+            (_, Some(field)) if field.kind == kind => {
+                tell_selector(said, field.selector, (word, b""))
+            }
+            _ if word.contains(&b'.') => {
+                said.tell(&[Piece::Word(b" isn't a selector")], &selectors)
+            }
             _ => match nearest(said.alloc, word, &SELECTORS)? {
                 Some(other) => said.ask(b" isn't a selector", other),
                 None => said.tell(&[Piece::Word(b" isn't a selector")], &selectors),

@@ -4,6 +4,7 @@ use crate::chains::{explain_chain_name, explain_jump};
 use crate::content::{begins_a_statement, is_family, without_blanks_behind};
 use crate::explained::Explained;
 use crate::help::{RULES_FILE, TextKind, explain_plainly};
+use crate::source::shortened;
 use crate::words::{bytes_of, count_of, is_one_of, is_separator, last_word, last_words, word_at};
 use set_model::{Memory, Schema};
 use text_pieces::Piece;
@@ -16,16 +17,14 @@ const RULE_WORDS: [&[u8]; 6] = [b"in", b"out", b"accept", b"drop", b"return", b"
 const PLAIN_ACTS: [&[u8]; 3] = [b"accept", b"drop", b"return"];
 
 /// Words of nft's rules for acts that are called otherwise here, and the acts.
-const OTHER_ACTS: [(&[u8], &[u8]); 9] = [
+const OTHER_ACTS: [(&[u8], &[u8]); 7] = [
     (b"reject", b"drop"),
     (b"deny", b"drop"),
     (b"block", b"drop"),
     (b"allow", b"accept"),
     (b"permit", b"accept"),
     (b"pass", b"accept"),
-    (b"goto", b"jump"),
     (b"call", b"jump"),
-    (b"continue", b"return"),
 ];
 
 /// Words with which nft's rules take a value from a packet.
@@ -51,6 +50,9 @@ const FOR_RULESET: &[u8] =
 /// How a rule tests that a packet isn't in a set.
 const FOR_NOT: &[u8] =
     b"write 'out' in place of 'in' to test that the set has no element for the packet, as: out ip t s";
+
+const NO_BRACKETS: &[u8] =
+    b"leave the brackets out: a test is in or out, and the set's family, table and name, as: in ip t s";
 
 const ALL_TESTS: &[u8] =
     b"write the tests one after another if a packet has to meet all, or a rule for each if one is enough";
@@ -137,7 +139,7 @@ fn explain_rule_end(said: &mut Explained, part: &[u8]) -> Result<(), Memory> {
         );
     }
     said.say(
-        b" can't end a rule without an act",
+        b" ends a rule that decides nothing",
         b"write accept, drop, return or jump CHAIN after the tests, in the same line",
     )
 }
@@ -150,9 +152,17 @@ fn explain_in_rule(said: &mut Explained, token: &[u8]) -> Result<(), Memory> {
     match token {
         b"not" => said.say(b" can't come here", FOR_NOT),
         b"," | b"and" | b"or" => said.say(b" can't come between tests", ALL_TESTS),
+        b"goto" => said.say(
+            b" can't come here",
+            b"write two rules with the same tests: one with 'jump CHAIN', and after it one with 'return'",
+        ),
+        b"continue" => said.say(
+            b" can't come here",
+            b"leave the whole rule out: a packet goes on with the next rule by itself",
+        ),
         word if is_one_of(word, &NO_ACTS) => said.say(
             b" can't come here",
-            b"leave it out: a rule has only tests of sets and one act",
+            b"leave it out: a rule has only tests of sets, and then accept, drop, return or jump CHAIN",
         ),
         word if is_family(word) || is_one_of(word, &NFT_SELECTORS) => said.say(
             b" can't come here: a rule names no fields of a packet",
@@ -160,6 +170,33 @@ fn explain_in_rule(said: &mut Explained, token: &[u8]) -> Result<(), Memory> {
         ),
         word => said.suggest(b" can't come here", word, &RULE_WORDS, RULE),
     }
+}
+
+/// Explains a brace after a test's `in` or `out`, which may begin a list of sets.
+fn explain_several(said: &mut Explained, part: &[u8]) -> Result<(), Memory> {
+    said.say(
+        b" can't come here: a test names one set",
+        if last_word(part) == b"in".as_slice() {
+            b"write a rule for each set, as: in ip t p accept; in ip t s accept"
+        } else {
+            b"write a test for each set, one after another, as: out ip t p out ip t s accept"
+        },
+    )
+}
+
+/// Explains a token after the act of a rule.
+fn explain_after_act(said: &mut Explained, part: &[u8], help: &[u8]) -> Result<(), Memory> {
+    let (before, last) = last_words(part);
+    let is_jump = before == b"jump".as_slice();
+    said.tell(
+        &[
+            Piece::Word(b" can't follow '"),
+            Piece::Word(if is_jump { b"jump " } else { b"" }),
+            Piece::Word(shortened(last)),
+            Piece::Word(b"'"),
+        ],
+        &[Piece::Word(help)],
+    )
 }
 
 /// Explains a token in the braces of a chain.
@@ -185,13 +222,18 @@ fn explain_in_chain(said: &mut Explained, fault: Beside<'_>) -> Result<(), Memor
         ),
         _ if last_word(part) == b"jump".as_slice() => explain_jump(said, fault),
         _ if is_end(fault.token) && !part.is_empty() => explain_rule_end(said, part),
-        word if has_act(part) && is_one_of(word, &RULE_WORDS) => said.say(
-            b" can't follow the act of a rule",
-            b"end the rule before it, with ';' or a new line",
-        ),
-        _ if has_act(part) => said.say(
-            b" can't follow the act of a rule",
-            b"leave it out: a rule ends with its act",
+        b"{" if is_one_of(last_word(part), &[b"in", b"out"]) => explain_several(said, part),
+        word if has_act(part) && is_one_of(word, &RULE_WORDS) => {
+            explain_after_act(
+                said,
+                part,
+                b"end the rule before it, with ';' or a new line",
+            )
+        }
+        _ if has_act(part) => explain_after_act(
+            said,
+            part,
+            b"leave it out: a rule ends with accept, drop, return or jump CHAIN",
         ),
         _ if is_test && count_of_all(part, &[b"in", b"out"]) >= MOST_TESTS => said.say(
             b" is one test too many",
@@ -317,6 +359,9 @@ pub(crate) fn explain_rules(
         }
         Reason::Character if matches!(fault.token, [b'&' | b'|', ..]) => {
             said.say(b" is an unexpected character", ALL_TESTS)
+        }
+        Reason::Character if matches!(fault.token, [b'[' | b'(', ..]) => {
+            said.say(b" is an unexpected character", NO_BRACKETS)
         }
         Reason::End => explain_end(said, fault.before),
         Reason::Statement => explain_place(said, fault),

@@ -75,3 +75,31 @@ pub(crate) fn field_named(first: &[u8], second: &[u8]) -> Option<Selected> {
         _ => None,
     }
 }
+
+/// Wireshark's names of a packet's fields: the plan's word for each, and its type.
+const WIRESHARK: [(&[u8], &[u8], Kind); 14] = [
+    (b"ip.src", b"ip_saddr", Kind::Ipv4),
+    (b"ip.dst", b"ip_daddr", Kind::Ipv4),
+    (b"ipv6.src", b"ip6_saddr", Kind::Ipv6),
+    (b"ipv6.dst", b"ip6_daddr", Kind::Ipv6),
+    (b"eth.src", b"ether_saddr", Kind::Ether),
+    (b"eth.dst", b"ether_daddr", Kind::Ether),
+    (b"ip.proto", b"proto", Kind::Proto),
+    (b"ipv6.nxt", b"proto", Kind::Proto),
+    (b"tcp.srcport", b"sport", Kind::Service),
+    (b"tcp.dstport", b"dport", Kind::Service),
+    (b"udp.srcport", b"sport", Kind::Service),
+    (b"udp.dstport", b"dport", Kind::Service),
+    (b"sctp.srcport", b"sport", Kind::Service),
+    (b"sctp.dstport", b"dport", Kind::Service),
+];
+
+/// The field of a packet that a name of Wireshark's means.
+pub(crate) fn field_in_wireshark(name: &[u8]) -> Option<Selected> {
+    for (other, selector, kind) in &WIRESHARK {
+        if *other == name {
+            return field_of(*selector, *kind);
+        }
+    }
+    None
+}

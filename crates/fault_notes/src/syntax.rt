@@ -4,12 +4,12 @@ use crate::content::is_family;
 use crate::explained::{Explained, Fault};
 use crate::families::{explain_family, family_meant};
 use crate::help::{SIZE, TIME, TextKind, explain_plainly};
-use crate::selectors::field_named;
+use crate::selectors::{Selected, field_in_wireshark, field_named};
 use crate::sets::{SET_NAME, explain_no_name};
 use crate::shell::{explain_end, for_command, names_a_shell};
 use crate::source::shortened;
 use crate::times::{explain_time, explain_unit, is_apart};
-use crate::values::{explain_all, explain_quoted, types_of, word_of};
+use crate::values::{explain_all, explain_flag, explain_quoted, types_of, word_of};
 use crate::words::{count_of, is_one_of, kind_at, last_word, word_at};
 use set_model::Memory;
 use text_pieces::Piece;
@@ -117,6 +117,10 @@ fn explain_first(said: &mut Explained, fault: Fault<'_>) -> Result<(), Memory> {
             b" can't begin a statement",
             b"write 'add', 'create', 'delete' or 'destroy' before it",
         ),
+        b"{" => said.say(
+            b" can't begin a statement",
+            b"write it in the line of what it opens, as: table ip t {",
+        ),
         b"remove" | b"rm" => said.say(b" can't begin a statement", b"did you mean 'delete'?"),
         b"insert" | b"append" | b"new" => {
             said.say(b" can't begin a statement", b"did you mean 'add'?")
@@ -146,10 +150,28 @@ fn explain_first(said: &mut Explained, fault: Fault<'_>) -> Result<(), Memory> {
     }
 }
 
+/// Whether a word begins with a digit, as most values do.
+fn begins_with_digit(word: &[u8]) -> bool {
+    matches!(word, [b'0'..=b'9', ..])
+}
+
+/// What to do at the end of a line after a name, if the next line begins with the `{` that belongs there.
+fn for_brace(fault: Fault<'_>, help: &'static [u8]) -> &'static [u8] {
+    if word_at(fault.around.behind(fault.at), 0) == b"{".as_slice() {
+        b"write the '{' of the next line in this one, right after the name"
+    } else {
+        help
+    }
+}
+
 /// Explains the second token of a statement.
 fn explain_second(said: &mut Explained, fault: Fault<'_>) -> Result<(), Memory> {
     let word = fault.token;
     match word_at(fault.around.part, 0) {
+        b"add" if begins_with_digit(word_at(fault.around.behind(fault.at), 1)) => said.say(
+            b" can't follow 'add'",
+            b"write 'element', the set, and the elements in braces, as: add element ip t p { 80, 443 }",
+        ),
         b"add" => said.suggest(
             b" can't follow 'add'",
             word,
@@ -181,8 +203,12 @@ fn explain_second(said: &mut Explained, fault: Fault<'_>) -> Result<(), Memory> 
         ),
         b"table" => said.say(b" isn't the name of a table", TABLE_NAME),
         b"commit" | b"abort" | b"round" | b"}" => { explain_end(said, fault, for_extra(word)) }
-        _ => said.suggest(
-            b" can't be changed so",
+        verb => said.suggest(
+            match verb {
+                b"create" => b" can't follow 'create'",
+                b"delete" => b" can't follow 'delete'",
+                _ => b" can't follow 'destroy'",
+            },
             word,
             &[b"element"],
             b"create, delete and destroy are followed by element",
@@ -234,7 +260,7 @@ fn explain_place(said: &mut Explained, fault: Fault<'_>) -> Result<(), Memory> {
     if is_block {
         return said.say(
             b" can't follow the table's name",
-            b"write '{' after it, or 'add table' before it",
+            for_brace(fault, b"write '{' after it, or 'add table' before it"),
         );
     }
     if place.name.is_empty() {
@@ -256,7 +282,7 @@ fn explain_place(said: &mut Explained, fault: Fault<'_>) -> Result<(), Memory> {
         ),
         _ => said.say(
             b" can't follow the set's name",
-            b"write '{' after the set's name",
+            for_brace(fault, b"write '{' after the set's name"),
         ),
     }
 }
@@ -359,7 +385,7 @@ fn explain_in_table(said: &mut Explained, fault: Fault<'_>) -> Result<(), Memory
         ),
         _ => said.say(
             b" can't follow the set's name",
-            b"write '{' after the set's name",
+            for_brace(fault, b"write '{' after the set's name"),
         ),
     }
 }
@@ -424,7 +450,9 @@ fn explain_in_item(said: &mut Explained, fault: Fault<'_>) -> Result<(), Memory>
             said.tell(
                 &[Piece::Word(b" can't follow a flag")],
                 &[
-                    Piece::Word(b"write the time as an item of its own: flags timeout; timeout "),
+                    Piece::Word(b"write the time as an item of its own: "),
+                    Piece::Word(shortened(part)),
+                    Piece::Word(b"; timeout "),
                     Piece::Word(shortened(word)),
                 ],
             )
@@ -542,10 +570,8 @@ fn explain_option(said: &mut Explained, fault: Fault<'_>) -> Result<(), Memory> 
     if count_of(fault.around.part, word) > 0 {
         return said.say(b" is given twice", b"leave one of the two out");
     }
-    said.say(
-        b" needs a set with the flag timeout",
-        b"declare the set with 'flags timeout'",
-    )
+    said.wrong.say(b" needs a set with the flag timeout")?;
+    explain_flag(said, fault, b"timeout")
 }
 
 /// Explains a token after the values of an element, which may lack some fields.
@@ -706,6 +732,26 @@ fn type_meant(word: &[u8]) -> Option<&'static [u8]> {
     None
 }
 
+/// Explains words in the place of a type that name a packet's field: one word, or two with a blank between them.
+fn explain_selected<'x>(
+    said: &mut Explained,
+    field: Selected,
+    words: (&'x [u8], &'x [u8], &'x [u8]),
+) -> Result<(), Memory> {
+    said.tell(
+        &[Piece::Word(b" isn't a type")],
+        &[
+            Piece::Word(b"write "),
+            Piece::Word(word_of(field.kind)),
+            Piece::Word(b" in place of '"),
+            Piece::Word(words.0),
+            Piece::Word(words.1),
+            Piece::Word(words.2),
+            Piece::Word(b"'"),
+        ],
+    )
+}
+
 /// Explains a word at the place of a type.
 pub(crate) fn explain_type(said: &mut Explained, fault: Fault<'_>) -> Result<(), Memory> {
     if is_one_of(fault.token, &TYPES) {
@@ -713,6 +759,9 @@ pub(crate) fn explain_type(said: &mut Explained, fault: Fault<'_>) -> Result<(),
             b" makes the key too long",
             b"a key has 16 fields and 64 bytes at most: ipv6_addr takes 16 of them, ether_addr 8, each other type 4",
         );
+    }
+    if let Some(field) = field_in_wireshark(fault.token) {
+        return explain_selected(said, field, (fault.token, b"", b""));
     }
     if fault.token.contains(&b'.') {
         return said.say(
@@ -722,18 +771,7 @@ pub(crate) fn explain_type(said: &mut Explained, fault: Fault<'_>) -> Result<(),
     }
     let next = word_at(fault.around.behind(fault.at), 1);
     if let Some(field) = field_named(fault.token, next) {
-        return said.tell(
-            &[Piece::Word(b" isn't a type")],
-            &[
-                Piece::Word(b"write "),
-                Piece::Word(word_of(field.kind)),
-                Piece::Word(b" in place of '"),
-                Piece::Word(fault.token),
-                Piece::Word(b" "),
-                Piece::Word(next),
-                Piece::Word(b"'"),
-            ],
-        );
+        return explain_selected(said, field, (fault.token, b" ", next));
     }
     if let Some(kind) = type_meant(fault.token) {
         return said.ask(b" isn't a supported type", kind);

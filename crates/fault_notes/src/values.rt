@@ -1,5 +1,5 @@
 //! Explains a word that is no value or interval of its field.
-use crate::content::without_blanks;
+use crate::content::{without_blanks, without_blanks_behind};
 use crate::explained::{Explained, Fault};
 use crate::source::{first_of, shortened};
 use crate::words::{count_of, is_number, is_one_of, kind_at};
@@ -31,6 +31,10 @@ pub(crate) enum WrongValue<'a> {
     LongPrefix(&'a [u8]),
     /// A `/` isn't followed by a number.
     NoPrefix(&'a [u8]),
+    /// A `/` and a mask follow a mark.
+    Mask,
+    /// A `/` and a protocol's name follow this port.
+    Protocol(&'a [u8]),
     /// A netmask follows the `/` after this address: its bits.
     Netmask(&'a [u8], &'a [u8], u64),
     /// A range's first value is greater than its second.
@@ -52,6 +56,9 @@ pub(crate) enum WrongValue<'a> {
     /// The word, or this end of it, is no value of any kind.
     NoValue(&'a [u8]),
 }
+
+/// What to do with a mark that has a mask. As a prefix it would be other marks.
+const NO_MASK: &[u8] = b"write each mark that is meant, or a range of them, as 0x10-0x1f";
 
 /// How many bytes of a set's types are shown.
 const OF_TYPES: usize = 250;
@@ -214,10 +221,19 @@ fn wrong_end(kind: Kind, word: &[u8]) -> WrongValue<'_> {
     }
 }
 
-/// Two values of a kind with a `:` or `..` between them.
+/// Two values of a kind with a `:` or `..` between them. Before and after a `:` the first and the last port may be missing.
 fn colon_between(kind: Kind, word: &[u8]) -> Option<(&[u8], &[u8])> {
     let place = word.iter().position(|byte| *byte == b':' || *byte == b'.')?;
     let (low, behind) = word.split_at(place);
+    match (low, behind) {
+        (b"", [b':', high @ ..]) if kind == Kind::Service && read_value(kind, high).is_ok() => {
+            return Some((b"0", high));
+        }
+        (_, b":") if kind == Kind::Service && read_value(kind, low).is_ok() => {
+            return Some((low, b"65535"));
+        }
+        _ => {}
+    }
     match behind {
         [b':', high @ ..] | [b'.', b'.', high @ ..]
             if read_value(kind, low).is_ok() && read_value(kind, high).is_ok() => {
@@ -246,11 +262,17 @@ pub(crate) fn mask_bits(word: &[u8]) -> Option<u64> {
 
 /// What is wrong with what follows the `/` after an address.
 fn wrong_prefix<'a>(kind: Kind, low: &'a [u8], digits: &'a [u8]) -> WrongValue<'a> {
+    if kind == Kind::Mark {
+        return WrongValue::Mask;
+    }
     if is_number(digits) {
         return WrongValue::LongPrefix(digits);
     }
     match mask_bits(digits) {
         Some(bits) if kind == Kind::Ipv4 => WrongValue::Netmask(low, digits, bits),
+        _ if kind == Kind::Service && read_value(Kind::Proto, digits).is_ok() => {
+            WrongValue::Protocol(low)
+        }
         _ => WrongValue::NoPrefix(digits),
     }
 }
@@ -369,11 +391,21 @@ impl Explained {
                 &[
                     Piece::Word(b"'"),
                     Piece::Word(shortened(digits)),
-                    Piece::Word(b"' isn't a number of bits"),
+                    Piece::Word(b"' isn't a prefix length"),
                 ],
                 &[
-                    Piece::Word(b"write a prefix from /0 to /"),
+                    Piece::Word(b"write a number from 0 to "),
                     Piece::Number(u64::from(kind.bits())),
+                    Piece::Word(b" after the '/'"),
+                ],
+            ),
+            WrongValue::Mask => self.say(b"a mark in a set has no mask", NO_MASK),
+            WrongValue::Protocol(port) => self.tell(
+                &[Piece::Word(b"a port is a number alone")],
+                &[
+                    Piece::Word(b"write "),
+                    Piece::Word(shortened(port)),
+                    Piece::Word(b"; a protocol is a field of its own, of the type inet_proto"),
                 ],
             ),
             WrongValue::Netmask(low, mask, bits) => self.tell(
@@ -523,23 +555,66 @@ pub(crate) fn explain_value(said: &mut Explained, fault: Fault<'_>) -> Result<()
             b"write a value of the field's type",
         );
     };
-    if is_one_of(field.word, &[b"any", b"all"]) {
-        return said.say(b" isn't a value", all_of(field.kind));
+    if is_one_of(field.word, &[b"any", b"all", b"0/0"]) {
+        return explain_every(said, fault, field.kind, b" isn't a value");
     }
     match wrong_value(field) {
-        WrongValue::Several => said.say(
-            if fault.token.contains(&b'-') {
-                b" is a range, and the set has single values"
-            } else {
-                b" is a prefix, and the set has single values"
-            },
-            b"declare the set with 'flags interval'",
-        ),
+        WrongValue::Several if field.word.contains(&b'-') => {
+            said.wrong
+                .say(b" is a range, and the set has single values")?;
+            explain_flag(said, fault, b"interval")
+        }
+        WrongValue::Several if field.kind == Kind::Mark => {
+            said.say(b" is a prefix, and the set has single values", NO_MASK)
+        }
+        WrongValue::Several => {
+            said.wrong
+                .say(b" is a prefix, and the set has single values")?;
+            explain_flag(said, fault, b"interval")
+        }
         wrong => {
             said.misfit(field)?;
             said.wrong_value(field, wrong)
         }
     }
+}
+
+/// Says how a set is declared with one more flag.
+pub(crate) fn explain_flag<'x>(
+    said: &mut Explained,
+    fault: Fault<'x>,
+    flag: &'x [u8],
+) -> Result<(), Memory> {
+    let flags = without_blanks_behind(fault.set().item(b"flags"));
+    said.tell(
+        &[],
+        &[
+            Piece::Word(b"declare the set with '"),
+            Piece::Word(if flags.is_empty() {
+                b"flags"
+            } else {
+                shortened(flags)
+            }),
+            Piece::Word(if flags.is_empty() { b" " } else { b", " }),
+            Piece::Word(flag),
+            Piece::Word(b"'"),
+        ],
+    )
+}
+
+/// Explains a word that means all values of a kind.
+fn explain_every(
+    said: &mut Explained,
+    fault: Fault<'_>,
+    kind: Kind,
+    wrong: &[u8],
+) -> Result<(), Memory> {
+    said.say(wrong, all_of(kind))?;
+    if count_of(fault.set().item(b"flags"), b"interval") > 0 {
+        return Ok(());
+    }
+    said.help.say(b", and ")?;
+    explain_flag(said, fault, b"interval")
 }
 
 /// All values of a kind, as an interval.
@@ -557,7 +632,7 @@ fn all_of(kind: Kind) -> &'static [u8] {
 /// Explains a `*` at the place of a value.
 pub(crate) fn explain_all(said: &mut Explained, fault: Fault<'_>) -> Result<(), Memory> {
     match field_at(fault) {
-        Some(field) => said.say(b" isn't supported", all_of(field.kind)),
+        Some(field) => explain_every(said, fault, field.kind, b" isn't supported"),
         None => said.say(
             b" isn't supported",
             b"write all values as a prefix or a range, as 0.0.0.0/0",

@@ -222,6 +222,9 @@ const SCRIPTS_AND_KEYS: &[u8] = b"\
     s 26 1 1 27 character;add set ip t s { type mark\\; }\n|x:1:27: '\\' is an unexpected character\nadd set ip t s { type mark\\; }\n                          ^\nhelp: leave it out: only a shell needs it\n~\
     s 53 1 2 18 statement;add set ip t s { type ipv4_addr ; }\nflush set ip t s s\n|x:2:18: 's' can't follow here\nflush set ip t s s\n                 ^\nhelp: 'flush set' ends with the set's name: write ';' or a new line after it\n~\
     s 55 9 2 20 statement;add set ip t s { type ipv4_addr ; }\nadd element ip t s \"{ 10 } \"\n|x:2:20: '\"{ 10 } \"' is a string, and can't come here\nadd element ip t s \"{ 10 } \"\n                   ^^^^^^^^^\nhelp: leave out the quotes: only comments have them\n~\
+    s 7 1 1 8 statement;create s hash:net\n|x:1:8: 's' can't follow 'create': this looks like a file of ipset\ncreate s hash:net\n       ^\nhelp: translate the sets into nft's, and list those: ipset-translate restore < FILE > sets.nft; pipapo list sets.nft\n~\
+    s 2 1 2 1 left out;#\n*filter\n|x:2:1: '*' can't begin a statement: this looks like a file of iptables-save, which has no sets\n*filter\n^\nhelp: translate the sets that its rules name, and list those: ipset save | ipset-translate restore > sets.nft; pipapo list sets.nft\n~\
+    s 41 9 1 42 value;add set ip t s { type mark; elements = { 0x10/0xff } }\n|x:1:42: '0x10/0xff' doesn't fit field 1 (mark): a mark in a set has no mask\nadd set ip t s { type mark; elements = { 0x10/0xff } }\n                                         ^^^^^^^^^\nhelp: write each mark that is meant, or a range of them, as 0x10-0x1f\n~\
     s 53 1 2 18 set;add set ip t s { type ipv4_addr ; }\nadd element ip t q { 10.0.0.1 }\n|x:2:18: 'q' isn't a set that is declared before this place\nadd element ip t q { 10.0.0.1 }\n                 ^\nhelp: the sets declared before are ip t s\n~\
     s 0 2 1 1 statement;ip t s 10.0.0.1\n|x:1:1: this looks like a key file, and a script is expected here: 'run' and 'judge' take a key file after it\n~\
     s 0 2 1 1 statement;ip t s ip_saddr . dport\n|x:1:1: this looks like a plan, and a script is expected here: 'capture' takes a plan after it\n~\
@@ -248,6 +251,8 @@ const RULES_AND_PLANS: &[u8] = b"\
     k 24 0 1 25 statement;inet f allowed 192.0.2.1\n|x:1:25: the end of the line ends the key after 1 field\ninet f allowed 192.0.2.1\n                        ^\nhelp: the set's type is ipv4_addr . inet_service\n~\
     k 14 0 1 15 statement;inet f allowed\n|x:1:15: the end of the line ends the key after 0 fields\ninet f allowed\n              ^\nhelp: the set's type is ipv4_addr . inet_service\n~\
     k 7 4 1 8 set;policy drop\n|x:1:8: this looks like a rules file: it is named after the script, and then the key file\n~\
+    p 7 6 1 8 type;ip t s ip.src\n|x:1:8: 'ip.src' isn't a selector\nip t s ip.src\n       ^^^^^^\nhelp: write ip_saddr in place of 'ip.src'\n~\
+    r 13 1 1 14 statement;chain a { in { ip t s } drop }\npolicy drop\n|x:1:14: '{' can't come here: a test names one set\nchain a { in { ip t s } drop }\n             ^\nhelp: write a rule for each set, as: in ip t p accept; in ip t s accept\n~\
     p 7 5 1 8 type;ip t s dport\n|x:1:8: 'dport' doesn't fit the type of this field\nip t s dport\n       ^^^^^\nhelp: write ip_saddr or ip_daddr for this field: the set's type is ipv4_addr\n~\
     p 16 1 1 17 statement;ip t s ip_saddr ;\n|x:1:17: ';' can't follow the last selector\nip t s ip_saddr ;\n                ^\nhelp: leave it out, or write it in a line of its own; the set's type is ipv4_addr\n~\
     p 16 60 1 17 statement;ip t s ip_saddr aaaaaaaaaabbbbbbbbbbccccccccccddddddddddeeeeeeeeeeffffffffff x\n|x:1:17: 'aaaaaaaaaabbbbbbbbbbccccccccccddddddddddeeeeeeeeeeffffffffff' can't follow the last selector\nip t s ip_saddr aaaaaaaaaabbbbbbbbbbccccccccccddddddddddeeeeeeeeeeffffffffff x\n                ^^^^^^^^^^^^^^^^^^^^^^^^^^^^^^^^^^^^^^^^^^^^^^^^^^^^^^^^^^^^\nhelp: leave it out, or write it in a line of its own; the set's type is ipv4_addr\n~\
@@ -291,7 +296,9 @@ const FILES: &[u8] = b"\
 /// Words of a `get` that are no key.
 const KEYS: &[u8] = b"\
     7 2 1 8 value;ip t s 80|key:1:8: '80' doesn't fit field 1 (ipv4_addr): it isn't an IPv4 address\nip t s 80\n       ^^\nhelp: write four numbers from 0 to 255 with '.' between them, as 192.0.2.1\n~\
-    2 2 1 3 set;s 80|key:1:3: '80' isn't a set of the script\ns 80\n  ^^\nhelp: did you mean 'ip t s'?\n~\
+    2 2 1 3 set;s 80|key:1:3: '80' isn't the name of a set: 's' is at the place of a table\ns 80\n  ^^\nhelp: write the set's family, table and name, as: ip t s\n~\
+    9 8 1 10 set;ip saddr 10.0.0.1|key:1:10: '10.0.0.1' isn't the name of a set: a key doesn't name fields of a packet\nip saddr 10.0.0.1\n         ^^^^^^^^\nhelp: write the set and the values alone, as: ip filter allowed 192.0.2.1 . 80\n~\
+    6 4 1 7 set;sleep 1000|key:1:7: '1000' isn't a set of the script\nsleep 1000\n      ^^^^\nhelp: write the moment before the script, as: pipapo get --at 500 SCRIPT ..\n~\
     ;at 5|key:1:1: the words name no packet\nhelp: write [FAMILY] TABLE SET VALUE . VALUE ..; a moment is given before the script, as --at MOMENT\n~\
     ;ip t s 10.0.0.1\nip t s 10.0.0.2|key:1:1: the words have more than one line\nhelp: 'get' answers one key: write the keys into a file, one in each line, and then: pipapo run SCRIPT FILE\n~\
     16 8 1 17 statement;ip t s 10.0.0.1 10.0.0.2|key:1:17: '10.0.0.2' can't follow the last field\nip t s 10.0.0.1 10.0.0.2\n                ^^^^^^^^\nhelp: 'get' answers one key: write the keys into a file, one in each line, and then: pipapo run SCRIPT FILE\n~\
@@ -323,12 +330,12 @@ const REFUSALS: &[u8] = b"\
 
 #[test]
 fn notes(rt: HostRuntime) {
-    assert_told(&rt, rt.alloc(), SCRIPTS_AND_KEYS, 21, told_bad);
-    assert_told(&rt, rt.alloc(), RULES_AND_PLANS, 16, told_bad);
+    assert_told(&rt, rt.alloc(), SCRIPTS_AND_KEYS, 24, told_bad);
+    assert_told(&rt, rt.alloc(), RULES_AND_PLANS, 18, told_bad);
     assert_told(&rt, rt.alloc(), CAPTURES, 18, told_capture);
     assert_told(&rt, rt.alloc(), FILES, 6, told_file);
     assert_told(&rt, rt.alloc(), REFUSALS, 6, told_refusals);
-    assert_told(&rt, rt.alloc(), KEYS, 5, told_key);
+    assert_told(&rt, rt.alloc(), KEYS, 7, told_key);
 }
 
 /// Whether a note on so many refused changes has 20 lines, and then this.

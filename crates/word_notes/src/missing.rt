@@ -3,7 +3,7 @@ ghost use Rattle.std.specs.Prelude.{IfOk};
 ghost use Rattle.fault_notes.specs.Shown.{Begins, name_text};
 
 use crate::explained::FROM_NFT;
-use crate::habits::is_noun;
+use crate::habits::{is_family, is_noun};
 use fault_notes::{Explained, Note, explained_note, read_fault_note};
 use pip_base::FaultKind;
 use set_model::Memory;
@@ -17,6 +17,9 @@ fn instead_of(name: &str) -> Option<&'static [u8]> {
         ),
         "help" => Some(b"write 'pipapo help' alone, or a command after it, as: pipapo help run"),
         noun if is_noun(noun) => Some(FROM_NFT),
+        family if is_family(family) => Some(
+            b"a script's file comes before the set, as: pipapo get SCRIPT [FAMILY] TABLE SET VALUE",
+        ),
         _ => None,
     }
 }
