@@ -176,6 +176,16 @@ fn explain_beside(
     }
 }
 
+/// What a note says after the place of the bad token of a key file that is no text of another kind. The token is in its line
+/// `cut`.
+fn said_of_key(alloc: Global, schema: &Schema, bad: BadToken, cut: Cut<'_>) -> Result<Note, Memory>
+    ensures { IfOk result (λ note. IsSaid (both_lines cut.entry.front.now cut.entry.token.now cut.entry.behind.now) note.bytes.items false) }
+{
+    let mut said = Explained::new(alloc);
+    explain_in_key(&mut said, KeyPlace::File, schema, bad, cut)?;
+    with_source(alloc, &said, bad, cut)
+}
+
 /// What a note says after the place of the bad token of a text beside a script that declares these sets. The
 /// text isn't of another kind.
 fn said_beside(
@@ -395,5 +405,26 @@ pub fn further_note(
     let cut = cut_at(text, bad);
     let mut behind = said_at(alloc, rest, bad, cut)?;
     add_cause(&mut behind, is_caused(text, rest, bad, cut.token))?;
+    placed_note(alloc, name, bad, &behind)
+}
+
+/// The note on a further bad token of a key file beside a script that declares these sets, after the lines before it that
+/// were refused.
+///
+/// # Errors
+///
+/// `Memory` if memory runs out.
+pub fn further_key_note(
+    alloc: Global,
+    schema: &Schema,
+    name: &str,
+    text: &[u8],
+    bad: BadToken,
+) -> Result<Note, Memory>
+    ensures place { IfOk result (λ note. Begins (place_text name.now bad.line bad.column) note.bytes.items) }
+    ensures source { IfOk result (λ note. IsSaidAt (place_text name.now bad.line bad.column) (source_text text.now bad) false note.bytes.items) }
+{
+    let cut = cut_at(text, bad);
+    let behind = said_of_key(alloc, schema, bad, cut)?;
     placed_note(alloc, name, bad, &behind)
 }

@@ -16,7 +16,8 @@
 //! gives `did you mean 'interval'?`.
 //!
 //! After the first bad token of a script the rest is read again, without the statement of that token, or
-//! without the item of a set ([`without_statement`], [`further_note`]). So one call shows several errors.
+//! without the item of a set ([`without_statement`], [`further_note`]). Of a key file the lines after the bad token's are read
+//! again ([`without_key_line`], [`further_key_note`]). So one call shows several errors.
 //!
 //! It is proved that a note on a file begins with its name, and with the place of the bad token or byte
 //! if there is one. A note on a bad token shows its line with carets under it. Exactly if the text has the
@@ -64,7 +65,7 @@ mod told;
 mod values;
 mod words;
 
-pub use bad::{bad_key_note, bad_script_note, bad_text_note, further_note};
+pub use bad::{bad_key_note, bad_script_note, bad_text_note, further_key_note, further_note};
 pub use captures::capture_note;
 pub use content::is_other_kind;
 pub use explained::Explained;
@@ -77,6 +78,6 @@ pub use note::Note;
 pub use pcap_keys::CaptureReason;
 pub use refusals::refusals_note;
 pub use refused::{Met, RefusedChange, RefusedChanges};
-pub use rest::without_statement;
+pub use rest::{without_key_line, without_statement};
 pub use token_forms::BadToken;
 pub use told::tell_note;

@@ -1,5 +1,5 @@
-//! Blanks a refused statement, or a refused item of a set, out of a script, so that the rest can be read for
-//! further errors.
+//! Blanks a refused statement, or a refused item of a set, out of a script, and a refused line out of a key file, so
+//! that the rest can be read for further errors.
 ghost use Rattle.std.specs.Prelude.{◌≡◌, ℕ, IfOk};
 ghost use Rattle.fault_notes.specs.Blanked.{blanked};
 
@@ -9,7 +9,7 @@ use crate::values::is_range;
 use crate::words::{bytes_of, is_one_of, is_separator, item_of, word_at};
 use set_model::Memory;
 use std::alloc::Global;
-use token_forms::{BadToken, Reason, Tokens};
+use token_forms::{BadToken, Reason, TokenKind, Tokens};
 
 /// Where the statement around a place of a script begins and ends. The separator after it isn't part of
 /// it.
@@ -174,6 +174,32 @@ pub fn without_statement(alloc: Global, text: &[u8], at: u64) -> Result<Vec<u8>,
     ensures { IfOk result (λ rest. (from : ℕ) × (to : ℕ) × (rest.items ≡ blanked from to text.now)) }
 {
     let (from, to) = refused_part(alloc, text, at)?;
+    without_part(alloc, text, from, to)
+}
+
+/// Where the line of a key file around a place begins and ends. The line feed after it isn't part of it.
+fn key_line_at(text: &[u8], at: u64) -> (usize, usize) {
+    let mut begin = 0u64;
+    for token in Tokens::new(text) {
+        if matches!(token.kind, TokenKind::Break) {
+            if token.from >= at {
+                return (begin as usize, token.from as usize);
+            }
+            begin = token.to;
+        }
+    }
+    (begin as usize, text.len())
+}
+
+/// The key file without the line around a place. The bytes of the line are blanked out. So each other token keeps its place.
+///
+/// # Errors
+///
+/// `Memory` if memory runs out.
+pub fn without_key_line(alloc: Global, text: &[u8], at: u64) -> Result<Vec<u8>, Memory>
+    ensures { IfOk result (λ rest. (from : ℕ) × (to : ℕ) × (rest.items ≡ blanked from to text.now)) }
+{
+    let (from, to) = key_line_at(text, at);
     without_part(alloc, text, from, to)
 }
 
