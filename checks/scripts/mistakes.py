@@ -527,6 +527,37 @@ KEY_MISTAKES = [
     ("ip t", 5, "the end of the line comes too early", "complete the line: [FAMILY] TABLE SET VALUE . VALUE .."),
 ]
 
+NO_SET_Q = "the script's sets are ip t p, ip t a, ip t n, ip t v, ip t l, ip t e"
+
+# key files for SETS with several mistakes. Each has its line, its column, what is wrong and what to do. No earlier one is the cause
+SEVERAL_KEYS = [
+    (
+        "ip t p 70000\nip t p 80\nip t q 80\n\nip t a 10.0.0.1 # no port\nip t p 80-90\nround\nip t p $x\n",
+        [
+            (1, 8, "'70000' " + TOO_GREAT, PORT, False),
+            (3, 6, "'q' isn't a set of the script", NO_SET_Q, False),
+            (5, 26, "the end of the line ends the key after 1 field", PAIR, False),
+            (6, 8, "'80-90' is a range", ONE_VALUE, False),
+            (8, 8, "'$' is an unexpected character", "write the values themselves: there are no variables", False),
+        ],
+    ),
+    # a line that goes on in the next one
+    (
+        "ip t p 70000 \\\n443\nip t p 70000\n",
+        [
+            (1, 8, "'70000' " + TOO_GREAT, PORT, False),
+            (3, 8, "'70000' " + TOO_GREAT, PORT, False),
+        ],
+    ),
+    # the last line has no line feed
+    ("ip t p 70000\nip t a 10.0.0.1", [(1, 8, "'70000' " + TOO_GREAT, PORT, False), (2, 16, "the end of the text ends the key after 1 field", PAIR, False)]),
+    # ten at most, and whether there are more
+    ("ip t p 70000\n" * 10, [(line, 8, "'70000' " + TOO_GREAT, PORT, False) for line in range(1, 11)]),
+    ("ip t p 70000\n" * 12, [(line, 8, "'70000' " + TOO_GREAT, PORT, False) for line in range(1, 13)]),
+    # a later line of another kind is shown
+    ("ip t p 70000\nadd table ip t\n", [(1, 8, "'70000' " + TOO_GREAT, PORT, False), (2, 5, "'table' " + NO_SET_NAME, KEY_FORM, False)]),
+]
+
 # the words of the key of a `get` on SETS, the column of the bad token, what is wrong, and what to do
 GET_MISTAKES = [
     ("ip t p 70000", 8, "'70000' " + TOO_GREAT, PORT),

@@ -10,7 +10,7 @@ import subprocess
 import sys
 import tempfile
 
-from mistakes import FROM_ELEMENT, FROM_NFT, GET_MISTAKES, HELP_PAGE, KEY_MISTAKES, MISTAKES, NO_PACKET, PLAN_MISTAKES, RULES_MISTAKES, SETS, SEVERAL, WORD_MISTAKES, get_note, key_note, note, rules_note, several_notes, word_note
+from mistakes import FROM_ELEMENT, FROM_NFT, GET_MISTAKES, HELP_PAGE, KEY_MISTAKES, MISTAKES, NO_PACKET, PLAN_MISTAKES, RULES_MISTAKES, SETS, SEVERAL, SEVERAL_KEYS, WORD_MISTAKES, get_note, key_note, note, rules_note, several_notes, word_note
 
 LARGE = 67_108_865
 
@@ -74,6 +74,7 @@ FILES |= {f"mistake{number}.nft": mistake[0] for number, mistake in enumerate(MI
 FILES |= {f"several{number}.nft": script for number, (script, _) in enumerate(SEVERAL)}
 FILES |= {f"mistake{number}.rules": mistake[0] for number, mistake in enumerate(RULES_MISTAKES)}
 FILES |= {f"mistake{number}.plan": mistake[0] for number, mistake in enumerate(PLAN_MISTAKES)}
+FILES |= {f"several{number}.keys": keys for number, (keys, _) in enumerate(SEVERAL_KEYS)}
 FILES |= {"sets.nft": SETS, **{f"mistake{number}.keys": mistake[0] + "\n" for number, mistake in enumerate(KEY_MISTAKES)}}
 
 USAGE = re.compile("pipapo: usage: ")
@@ -113,6 +114,9 @@ def cases(shown):
     for number, mistake in enumerate(KEY_MISTAKES):
         name = f"mistake{number}.keys"
         yield ["run", "sets.nft", name], key_note(name, mistake), re.compile(r"pipapo: keys line 1: .*\n"), 4
+    for number, (keys, mistakes) in enumerate(SEVERAL_KEYS):
+        name = f"several{number}.keys"
+        yield ["run", "sets.nft", name], several_notes(name, keys, mistakes), re.compile(rf"pipapo: keys line {mistakes[0][0]}: .*\n"), 4
     for number, mistake in enumerate(RULES_MISTAKES):
         name = f"mistake{number}.rules"
         yield ["judge", "sets.nft", name, "good.keys"], rules_note(name, mistake), re.compile(rf"pipapo: rules line {mistake[1]}: .*\n"), 9

@@ -45,48 +45,53 @@ pub record NamesBadToken {A : Type 0} (kind : TextKind) (form : Form A) (tokens 
   pub is_bad : IsBadToken form tokens text bad
   pub is_on : IsOnToken name text bad (is_other_kind kind text bad) note
 
--- A note is on the bad token, by the definition, of what is left of a script. It shows the token's line in the script.
-pub record NamesFurther (left script name note : List ℕ) : Type 0 where
+-- A note is on the bad token, by the definition, of what is left of a text. It shows the token's line in the text.
+pub record NamesFurther {A : Type 0} (form : Form A) (left whole name note : List ℕ) : Type 0 where
   pub bad : BadToken
-  pub is_bad : IsBadToken script_form (text_tokens left) left bad
-  pub is_on : IsOnToken name script bad false note
+  pub is_bad : IsBadToken form (text_tokens left) left bad
+  pub is_on : IsOnToken name whole bad false note
 
--- Notes on bad tokens of a script after the first one, at most so many. Each begins with the place of the bad token of
--- what is left: the script in which a part is blanked out, and one more for each note before it. Each shows the script's own line.
+-- Notes on bad tokens of a text after the first one, at most so many. Each begins with the place of the bad token of
+-- what is left: the text in which a part is blanked out, and one more for each note before it. Each shows the text's own line.
 -- After the last note that is allowed a line says that there are more, if what is left has one more bad token.
-pub data AreFurther (name script : List ℕ) : ℕ → List ℕ → List ℕ → Type 0 where
-  no_more : (most : ℕ) (rest : List ℕ) → AreFurther name script most rest []
-  hidden : (from to : ℕ) (rest : List ℕ) (bad : BadToken) → IsBadToken script_form (text_tokens (blanked from to rest)) (blanked from to rest) bad → AreFurther name script 0 rest (hidden_text name)
-  one_more : (most from to : ℕ) (rest note more : List ℕ) → NamesFurther (blanked from to rest) script name note
-      → AreFurther name script most (blanked from to rest) more → AreFurther name script (suc most) rest (note ++ more)
+pub data AreFurther {A : Type 0} (form : Form A) (name whole : List ℕ) : ℕ → List ℕ → List ℕ → Type 0 where
+  no_more : (most : ℕ) (rest : List ℕ) → AreFurther form name whole most rest []
+  hidden : (from to : ℕ) (rest : List ℕ) (bad : BadToken) → IsBadToken form (text_tokens (blanked from to rest)) (blanked from to rest) bad → AreFurther form name whole 0 rest (hidden_text name)
+  one_more : (most from to : ℕ) (rest note more : List ℕ) → NamesFurther form (blanked from to rest) whole name note
+      → AreFurther form name whole most (blanked from to rest) more → AreFurther form name whole (suc most) rest (note ++ more)
 
--- A note on a script is on this bad token first. At most nine notes on further ones follow, and a line if there are more.
-pub record IsScriptNote (name text : List ℕ) (bad : BadToken) (note : List ℕ) : Type 0 where
+-- A note on a text that is to be of this kind is on this bad token first. At most nine notes on further ones follow, and a line if
+-- there are more.
+pub record IsNoteFrom {A : Type 0} (kind : TextKind) (form : Form A) (name text : List ℕ) (bad : BadToken) (note : List ℕ) : Type 0 where
   pub first : List ℕ
   pub more : List ℕ
-  pub is_on : IsOnToken name text bad (is_other_kind kinds.Script text bad) first
-  pub further : AreFurther name text 9 text more
-  pub whole : note ≡ first ++ more
+  pub is_on : IsOnToken name text bad (is_other_kind kind text bad) first
+  pub further : AreFurther form name text 9 text more
+  pub all : note ≡ first ++ more
 
--- A note is on a script by its bad token, if that was found.
-pub record IsScriptNoted (found : Result (Option BadToken) NoMemory) (name text note : List ℕ) : Type 0 where
+-- A note is on a text by its bad token, if that was found.
+pub record IsNotedFrom {A : Type 0} (kind : TextKind) (form : Form A) (found : Result (Option BadToken) NoMemory) (name text note : List ℕ) : Type 0 where
   pub bad : BadToken
   pub is_found : found ≡ Ok (Some bad)
-  pub says : IsScriptNote name text bad note
+  pub says : IsNoteFrom kind form name text bad note
 
--- A note names a script's bad token by the definition, and further ones.
-pub record NamesBadTokens (text name note : List ℕ) : Type 0 where
+-- A note names a text's bad token by the definition, and further ones.
+pub record NamesBadTokens {A : Type 0} (kind : TextKind) (form : Form A) (text name note : List ℕ) : Type 0 where
   pub bad : BadToken
-  pub is_bad : IsBadToken script_form (text_tokens text) text bad
-  pub says : IsScriptNote name text bad note
+  pub is_bad : IsBadToken form (text_tokens text) text bad
+  pub says : IsNoteFrom kind form name text bad note
+
+-- The same of a script.
+abbrev pub NamesScriptTokens : List ℕ → List ℕ → List ℕ → Type 0
+NamesScriptTokens text name note = NamesBadTokens kinds.Script script_form text name note
 
 -- A note on a flawed text begins with its name and the place of the flaw: of the bad token, whose line it shows, or of a
--- capture's byte. In a script further bad tokens follow. Those of a ruleset are those of what is kept of it.
+-- capture's byte. In a script and a key file further bad tokens follow. Those of a ruleset are those of what is kept of it.
 abbrev pub NamesFlaw : List SetDecl → List ℕ → List ℕ → Flaw → List ℕ → Type 0
-NamesFlaw sets text name (flaws.Script line reason) note = NamesBadTokens text name note
-NamesFlaw sets text name (flaws.SecondScript line reason) note = NamesBadTokens text name note
-NamesFlaw sets text name (flaws.Ruleset line reason) note = HoldsOfKept text (λ kept. NamesBadTokens kept name note)
-NamesFlaw sets text name (flaws.Keys line reason) note = NamesBadToken kinds.Keys (key_file sets) (text_tokens text) text name note
+NamesFlaw sets text name (flaws.Script line reason) note = NamesScriptTokens text name note
+NamesFlaw sets text name (flaws.SecondScript line reason) note = NamesScriptTokens text name note
+NamesFlaw sets text name (flaws.Ruleset line reason) note = HoldsOfKept text (λ kept. NamesScriptTokens kept name note)
+NamesFlaw sets text name (flaws.Keys line reason) note = NamesBadTokens kinds.Keys (key_file sets) text name note
 NamesFlaw sets text name (flaws.Rules line reason) note = NamesBadToken kinds.Rules (rules_file sets) (plain_tokens text) text name note
 NamesFlaw sets text name (flaws.Plan line reason) note = NamesBadToken kinds.Plan (plan_form sets) (plain_tokens text) text name note
 NamesFlaw sets text name (flaws.Capture byte reason) note = Begins (byte_text name byte) note

@@ -18,6 +18,7 @@ ghost use Rattle.input_files.specs.Noted.{IsNoteOn};
 ghost use Rattle.input_files.specs.Seen.{AddsSkips, ruleset_names, seen};
 
 use crate::fault::{FileFault, Flaw};
+use crate::keys_told::tell_keys;
 use crate::script_told::tell_script;
 use crate::seen::{Rulesets, Skips, read_of};
 use crate::told::{tell_bad, tell_capture, tell_read_fault, tell_too_large};
@@ -187,7 +188,7 @@ pub fn keys_of<'a, F: Shelf, N: Notes>(
         Ok(keys) => Ok(keys),
         Err(FormError::Bad { line, reason }) => {
             let found = key_file::bad_token(alloc, schema, bytes);
-            tell_bad(alloc, notes, TextKind::Keys, schema, name, bytes, found);
+            tell_keys(alloc, notes, schema, name, bytes, found);
             Err(FileFault::Bad(Flaw::Keys { line, reason }))
         }
         Err(FormError::Memory) => Err(FileFault::Memory),

@@ -23,6 +23,7 @@
 
 mod fault;
 mod files;
+mod keys_told;
 mod rulesets;
 mod script_told;
 mod seen;

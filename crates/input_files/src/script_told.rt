@@ -1,7 +1,9 @@
 //! Prints where a script isn't in its grammar: its bad token, and those of the statements after it.
 ghost use Rattle.std.specs.Prelude.{IfOk};
 ghost use Rattle.fault_notes.specs.Told.{SaysTold};
-ghost use Rattle.input_files.specs.Noted.{AreFurther, IsScriptNote, IsScriptNoted};
+ghost use Rattle.fault_notes.specs.declared.help.TextKind.TheVariants as kinds;
+ghost use Rattle.set_script.specs.Script.{script as script_form};
+ghost use Rattle.input_files.specs.Noted.{AreFurther, IsNoteFrom, IsNotedFrom};
 
 use fault_notes::{
     Note, TextKind, bad_script_note, further_note, hidden_note, is_other_kind, tell_note,
@@ -16,8 +18,8 @@ use token_forms::BadToken;
 /// How many errors a note shows after the first one.
 pub const MOST_FURTHER: u64 = 9;
 
-/// The most bytes of a script that is read again for further errors.
-const MOST_READ_AGAIN: usize = 1_048_576;
+/// The most bytes of a text that is read again for further errors.
+pub(crate) const MOST_READ_AGAIN: usize = 1_048_576;
 
 /// The notes on the bad tokens after this one, at most so many, and the line that says that there are more, if
 /// there are. Each is the bad token of the script without the statements of those before it. In `rest` these are
@@ -31,7 +33,7 @@ fn further(
     bad: BadToken,
     most: u64,
 ) -> Result<Note, Memory>
-    ensures { IfOk result (λ notes. AreFurther name.now text.now most rest.now notes.bytes.items) }
+    ensures { IfOk result (λ notes. AreFurther script_form name.now text.now most rest.now notes.bytes.items) }
 {
     let left = without_statement(alloc, rest, bad.at)?;
     let bytes = left.as_slice();
@@ -54,7 +56,7 @@ fn further(
 /// read again.
 #[tactic(auto, using(crate::proofs::Telling::first_alone))]
 fn script_note(alloc: Global, name: &str, text: &[u8], bad: BadToken) -> Result<Note, Memory>
-    ensures { IfOk result (λ note. IsScriptNote name.now text.now bad note.bytes.items) }
+    ensures { IfOk result (λ note. IsNoteFrom kinds.Script script_form name.now text.now bad note.bytes.items) }
 {
     let mut note = bad_script_note(alloc, name, text, bad)?;
     if text.len() > MOST_READ_AGAIN {
@@ -76,7 +78,7 @@ pub fn tell_script<N: Notes>(
     text: &[u8],
     found: Result<Option<BadToken>, Memory>,
 ) -> bool
-    ensures { SaysTold (IsScriptNoted found name.now text.now) (N.told notes.old) (N.told notes.new) result }
+    ensures { SaysTold (IsNotedFrom kinds.Script script_form found name.now text.now) (N.told notes.old) (N.told notes.new) result }
 {
     match found {
         Ok(Some(bad)) => tell_note(notes, script_note(alloc, name, text, bad)),

@@ -1,12 +1,11 @@
 use Rattle.std.proofs.Common.{refl, ap, Err}
-use Rattle.token_forms.specs.TextTokens.{text_tokens}
 use Rattle.key_file.specs.Keys.{key_file}
 use Rattle.input_files.specs.declared.fault.Flaw.TheVariants as flaws
 use Rattle.input_files.specs.Inputs.{keys}
 use Rattle.input_files.specs.Seen.{ruleset_names, seen}
 use Rattle.input_files.proofs.Reading.{bad-cause}
 use Rattle.fault_notes.specs.declared.help.TextKind.TheVariants as kinds
-use Rattle.input_files.proofs.Telling.{bad-note}
+use Rattle.input_files.proofs.Telling.{whole-note}
 use Rattle.fault_notes.proofs.ToldLaws.{may_tell}
 use Rattle.input_files.proofs.files.keys_of.Goals as goal
 
@@ -24,4 +23,4 @@ returns-in-Err-clause-noted g c = c.in-Err.ensures.noted c.args.schema.now
 
 pub returns-in-Err-Bad-clause-noted : goal.returns-in-Err-Bad-clause-noted
 returns-in-Err-Bad-clause-noted g c =
-    bad-note kinds.Keys (key_file c.args.schema.now) text_tokens (seen (ruleset_names c.args.rulesets) (g.F.Shelf.told c.args.shelf.now)) c.args.name.now c.in-Ok.text.items c.as_slice-bytes.result.now c.bad_token-found.result _ _ _ c.in-Ok.ensures.bytes c.as_slice-bytes.ensures.value c.bad_token-found.ensures c.in-Ok.ensures.silent (may_tell c.tell_bad.ensures)
+    whole-note kinds.Keys (key_file c.args.schema.now) (seen (ruleset_names c.args.rulesets) (g.F.Shelf.told c.args.shelf.now)) c.args.name.now c.in-Ok.text.items c.as_slice-bytes.result.now c.bad_token-found.result _ _ _ c.in-Ok.ensures.bytes c.as_slice-bytes.ensures.value c.bad_token-found.ensures c.in-Ok.ensures.silent (may_tell c.tell_keys.ensures)

@@ -3,7 +3,9 @@ use Rattle.input_files.specs.declared.fault.Flaw.TheVariants as flaws
 use Rattle.input_files.specs.Inputs.{script}
 use Rattle.input_files.specs.Seen.{ruleset_names, seen}
 use Rattle.input_files.proofs.Reading.{bad-cause}
-use Rattle.input_files.proofs.Telling.{script-note}
+use Rattle.set_script.specs.Script.{script as script_form}
+use Rattle.fault_notes.specs.declared.help.TextKind.TheVariants as kinds
+use Rattle.input_files.proofs.Telling.{whole-note}
 use Rattle.fault_notes.proofs.ToldLaws.{may_tell}
 use Rattle.input_files.proofs.files.script_of.Goals as goal
 
@@ -18,4 +20,4 @@ returns-in-Err-Bad-clause-cause g c =
 
 pub returns-in-Err-Bad-clause-noted : goal.returns-in-Err-Bad-clause-noted
 returns-in-Err-Bad-clause-noted g c =
-    λ sets. script-note (seen (ruleset_names c.args.rulesets) (g.F.Shelf.told c.args.shelf.now)) c.args.name.now c.in-Ok.text.items c.as_slice-bytes.result.now c.bad_token-found.result _ _ _ c.in-Ok.ensures.bytes c.as_slice-bytes.ensures.value c.bad_token-found.ensures c.in-Ok.ensures.silent (may_tell c.tell_script.ensures)
+    λ sets. whole-note kinds.Script script_form (seen (ruleset_names c.args.rulesets) (g.F.Shelf.told c.args.shelf.now)) c.args.name.now c.in-Ok.text.items c.as_slice-bytes.result.now c.bad_token-found.result _ _ _ c.in-Ok.ensures.bytes c.as_slice-bytes.ensures.value c.bad_token-found.ensures c.in-Ok.ensures.silent (may_tell c.tell_script.ensures)

@@ -15,12 +15,12 @@ returns-in-Some n c =
     let count : c.args.most ≡ suc (c.args.most - 1) = omega (arith, c.if-most-eq0.false) in
     let left = c.as_slice-bytes.result.now in
     let is_bad = subst (λ (o : Option BadToken). IsBadTokenAmong script_form (text_tokens left) left o) c.in-Some.is c.in_ok-found.ensures in
-    one-further c.args.name.now c.args.text.now c.args.most (c.args.most - 1) c.args.rest.now left c.in_ok-notes-in-Some.notes.bytes.items c.in_ok-more-in-Some.more.bytes.items c.join.new.self.bytes.items c.in-Some.next
+    one-further script_form c.args.name.now c.args.text.now c.args.most (c.args.most - 1) c.args.rest.now left c.in_ok-notes-in-Some.notes.bytes.items c.in_ok-more-in-Some.more.bytes.items c.join.new.self.bytes.items c.in-Some.next
     count (search (c.in_ok-left.ensures, c.as_slice-bytes.ensures.value)) is_bad (record { begins = c.in_ok-notes-in-Some.ensures.place; shows = c.in_ok-notes-in-Some.ensures.source }) c.in_ok-more-in-Some.ensures (search c.in_ok-join-in-Some.ensures)
 
 pub returns-then-most-eq0 : goal.returns-then-most-eq0
 returns-then-most-eq0 t c =
     let left = c.as_slice-bytes.result.now in
     let is_bad = subst (λ (o : Option BadToken). IsBadTokenAmong script_form (text_tokens left) left o) c.in-Some.is c.in_ok-found.ensures in
-    if-ok-as c.hidden_note.result (λ (n : Note). n.bytes.items ≡ hidden_text c.args.name.now) (λ (n : Note). AreFurther c.args.name.now c.args.text.now c.args.most c.args.rest.now n.bytes.items)
-    (λ n is. more-hidden c.args.name.now c.args.text.now c.args.most c.args.rest.now left n.bytes.items c.in-Some.next (search c.if-most-eq0.true) (search (c.in_ok-left.ensures, c.as_slice-bytes.ensures.value)) is_bad is) c.hidden_note.ensures
+    if-ok-as c.hidden_note.result (λ (n : Note). n.bytes.items ≡ hidden_text c.args.name.now) (λ (n : Note). AreFurther script_form c.args.name.now c.args.text.now c.args.most c.args.rest.now n.bytes.items)
+    (λ n is. more-hidden script_form c.args.name.now c.args.text.now c.args.most c.args.rest.now left n.bytes.items c.in-Some.next (search c.if-most-eq0.true) (search (c.in_ok-left.ensures, c.as_slice-bytes.ensures.value)) is_bad is) c.hidden_note.ensures
