@@ -26,6 +26,9 @@ ETHER = "write six pairs of hexadecimal digits, as 02:00:5e:10:00:01"
 PROTO = "write a number from 0 to 255, or a protocol's name in lower case, as tcp"
 MARK = "write a number from 0 to 4294967295, or 0x and 1 to 8 hexadecimal digits"
 TYPES = "the types are ipv4_addr, ipv6_addr, ether_addr, inet_proto, inet_service and mark"
+EXPRESSIONS = "the expressions are of addresses, ports, protocols and marks, as: typeof ip saddr . tcp dport"
+WHOLE_EXPRESSION = "write the whole expression before it, as: tcp dport"
+LONG_KEY = "a key has 16 fields and 64 bytes at most: ipv6_addr takes 16 of them, ether_addr 8, each other type 4"
 PAIR = "the set's type is ipv4_addr . inet_service"
 COMMA = "',' or '}' is expected after an element"
 STATEMENTS = "a statement begins with add, create, delete, destroy, flush, table, at, commit, abort or round"
@@ -176,7 +179,16 @@ MISTAKES = [
     (declare("type mark; comment web"), 2, 37, "'web' isn't in quotes", 'quote the comment: comment "web"', "taken"),
     (declare("type mark; policy memroy"), 2, 36, "'memroy' isn't a policy", "did you mean 'memory'?", "syntax error, unexpected string, expecting memory or performance"),
     (declare("type mark; auto-merge"), 2, 29, "'auto-merge' isn't supported", "remove it: intervals aren't merged, and one that overlaps is refused", "auto-merge only works with interval sets"),
-    (declare("typeof iifname"), 2, 25, "'iifname' isn't a supported type", TYPES, "taken"),
+    (declare("typeof iifname"), 2, 25, "'iifname' isn't part of an expression that is known here", EXPRESSIONS, "taken"),
+    (declare("typeof ip sadr"), 2, 28, "'sadr' isn't part of an expression that is known here", "did you mean 'saddr'?", "syntax error, unexpected string"),
+    (declare("typeof ipv4_addr . inet_service"), 2, 25, "'ipv4_addr' isn't part of an expression that is known here", EXPRESSIONS, "primary expression type 'symbol' lacks typeof serialization"),
+    (declare("typeof tcp"), 2, 28, "';' comes before the end of an expression", WHOLE_EXPRESSION, "syntax error, unexpected semicolon"),
+    (declare("typeof tcp . ip saddr"), 2, 29, "'.' comes before the end of an expression", WHOLE_EXPRESSION, "syntax error, unexpected ."),
+    (declare("typeof ip saddr tcp dport"), 2, 34, "'tcp' can't follow a whole expression", "write ' . ' between expressions", "syntax error, unexpected tcp, expecting newline or semicolon or ."),
+    (declare("typeof ip saddr, tcp dport"), 2, 33, "',' can't follow a whole expression", "write ' . ' between expressions", "syntax error, unexpected comma, expecting newline or semicolon or ."),
+    (declare("typeof ip6 saddr . ip6 saddr . ip6 saddr . ip6 saddr . ip6 saddr"), 2, 77, "'saddr' makes the key too long", LONG_KEY, "Could not process rule: Invalid argument"),
+    (declare("typeof ip saddr . tcp dport; elements = { 10.0.0.1 }"), 2, 69, "'}' ends the element after 1 field", "the set's type is ip saddr . tcp dport", "invalid data type, expected concatenation of (IPv4 address, internet network service)"),
+    (declare("typeof ip saddr . tcp dport; elements = { 10.0.0.1 . 70000 }"), 2, 71, "'70000' doesn't fit field 2 (inet_service): 70000 is greater than 65535, the last port", PORT, "Service out of range"),
     ("table ip t {\n\tset s {\n\t\ttype mark\n\t}\n", 5, 1, "the end of the text leaves the '{' of line 1 open", "write '}' after the last set of the table", "syntax error, unexpected end of file"),
     ("table ip t {\n\tchain c {\n\t}\n}\n", 2, 2, "'chain' isn't supported", "remove chains and rules, or read a whole ruleset with --sets: a script has only sets", "taken"),
     ("table ip t {\n\tste s {\n\t}\n}\n", 2, 2, "'ste' can't come in a table", "did you mean 'set'?", "syntax error, unexpected string"),

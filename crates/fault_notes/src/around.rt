@@ -90,6 +90,16 @@ impl<'a> SetText<'a> {
         }
     }
 
+    /// The item with the types, or with the expressions, of the fields. It is empty if there is none.
+    pub(crate) fn type_item(self) -> &'a [u8] {
+        let types = self.item(b"type");
+        if types.is_empty() {
+            self.item(b"typeof")
+        } else {
+            types
+        }
+    }
+
     /// The item that begins with this word. It is empty if there is none.
     pub(crate) fn item(self, word: &[u8]) -> &'a [u8] {
         item_of(self.items, word)

@@ -46,7 +46,7 @@ const NO_VARIABLES: &[u8] = b"write the values themselves: there are no variable
 const NO_FLAG: &[u8] = b"remove the flag: the flags are interval, timeout and disjoint";
 
 /// Words that nft(8) reads and this program doesn't, and what to do about each.
-const LEFT_OUT: [(&[u8], &[u8]); 15] = [
+const LEFT_OUT: [(&[u8], &[u8]); 14] = [
     (b"chain", NO_CHAINS),
     (b"rule", NO_CHAINS),
     (b"map", NO_MAPS),
@@ -58,10 +58,6 @@ const LEFT_OUT: [(&[u8], &[u8]); 15] = [
     (b"undefine", NO_VARIABLES),
     (b"redefine", NO_VARIABLES),
     (b"include", b"copy the included file to this place"),
-    (
-        b"typeof",
-        b"write 'type' and the types themselves, as: type ipv4_addr . inet_service",
-    ),
     (
         b"auto-merge",
         b"remove it: intervals aren't merged, and one that overlaps is refused",
@@ -79,6 +75,10 @@ fn for_left_out(word: &[u8]) -> &'static [u8] {
     }
     b"write all values as a prefix or a range, as 0.0.0.0/0"
 }
+
+/// How long a key is at most.
+pub(crate) const LONG_KEY: &[u8] =
+    b"a key has 16 fields and 64 bytes at most: ipv6_addr takes 16 of them, ether_addr 8, each other type 4";
 
 /// What to do with the interface in an address, as in `fe80::1%eth0`.
 pub(crate) const NO_INTERFACE: &[u8] =

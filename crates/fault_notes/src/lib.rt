@@ -39,6 +39,7 @@ mod captures;
 mod chains;
 mod content;
 mod explained;
+mod expressions;
 mod families;
 mod files;
 mod held;

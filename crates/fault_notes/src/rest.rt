@@ -95,8 +95,9 @@ fn is_apart(item: Item<'_>) -> bool {
     let word = word_at(item.bytes, 0);
     let begins = begins_a_statement(word)
         || is_other_item(word)
-        || is_one_of(word, &[b"", b"set", b"type"]);
-    !begins && !item_of(item.before, b"type").is_empty()
+        || is_one_of(word, &[b"", b"set", b"type", b"typeof"]);
+    let has_type = |word: &[u8]| !item_of(item.before, word).is_empty();
+    !begins && (has_type(b"type") || has_type(b"typeof"))
 }
 
 /// The place after the innermost `{` before a place of a statement that no `}` closes.

@@ -2,8 +2,9 @@
 use crate::around::{Level, set_named};
 use crate::content::is_family;
 use crate::explained::{Explained, Fault};
+use crate::expressions::{explain_expression, is_expression_word, is_typeof};
 use crate::families::{explain_family, family_meant};
-use crate::help::{SIZE, TIME, TextKind, explain_plainly};
+use crate::help::{LONG_KEY, SIZE, TIME, TextKind, explain_plainly};
 use crate::selectors::{Selected, field_in_wireshark, field_named};
 use crate::sets::{SET_NAME, explain_no_name};
 use crate::shell::{explain_end, for_command, names_a_shell};
@@ -394,11 +395,11 @@ fn explain_in_table(said: &mut Explained, fault: Fault<'_>) -> Result<(), Memory
 fn explain_item(said: &mut Explained, fault: Fault<'_>) -> Result<(), Memory> {
     let set = fault.set();
     let word = fault.token;
-    if set.item(b"type").is_empty() {
+    if set.type_item().is_empty() {
         return said.suggest(
             b" can't come before the set's type",
             word,
-            &[b"type"],
+            &[b"type", b"typeof"],
             b"write the type first, as: type ipv4_addr . inet_service",
         );
     }
@@ -468,6 +469,10 @@ fn explain_in_item(said: &mut Explained, fault: Fault<'_>) -> Result<(), Memory>
         b"type" if is_one_of(word, &[b",", b"/"]) || is_one_of(word, &TYPES) => said.say(
             b" can't follow a type",
             b"write ' . ' between types",
+        ),
+        b"typeof" if is_one_of(word, &[b",", b"/"]) || is_expression_word(word) => said.say(
+            b" can't follow a whole expression",
+            b"write ' . ' between expressions",
         ),
         b"flags" if is_one_of(last, &[b"flags", b","]) && is_one_of(word, &FLAGS) => said.say(
             b" is given twice",
@@ -643,7 +648,7 @@ fn explain_no_comma(said: &mut Explained, word: &[u8]) -> Result<(), Memory> {
 /// Explains a token in a list.
 fn explain_in_list(said: &mut Explained, fault: Fault<'_>) -> Result<(), Memory> {
     let part = fault.around.part;
-    let type_item = fault.set().item(b"type");
+    let type_item = fault.set().type_item();
     let dots = count_of(part, b".");
     let is_behind_dot = last_word(part) == b".".as_slice();
     let fields = if is_behind_dot {
@@ -675,7 +680,7 @@ fn explain_in_list(said: &mut Explained, fault: Fault<'_>) -> Result<(), Memory>
 pub(crate) fn is_between_types(fault: Fault<'_>) -> bool {
     fault.token == b"/".as_slice()
         && fault.around.level == Level::Set
-        && word_at(fault.around.part, 0) == b"type".as_slice()
+        && is_one_of(word_at(fault.around.part, 0), &[b"type", b"typeof"])
 }
 
 /// Whether a token is a string outside of lists and comments.
@@ -754,11 +759,11 @@ fn explain_selected<'x>(
 
 /// Explains a word at the place of a type.
 pub(crate) fn explain_type(said: &mut Explained, fault: Fault<'_>) -> Result<(), Memory> {
+    if is_typeof(fault.around.part) {
+        return explain_expression(said, fault.around.part, fault.token);
+    }
     if is_one_of(fault.token, &TYPES) {
-        return said.say(
-            b" makes the key too long",
-            b"a key has 16 fields and 64 bytes at most: ipv6_addr takes 16 of them, ether_addr 8, each other type 4",
-        );
+        return said.say(b" makes the key too long", LONG_KEY);
     }
     if let Some(field) = field_in_wireshark(fault.token) {
         return explain_selected(said, field, (fault.token, b"", b""));

@@ -350,8 +350,11 @@ pub(crate) fn wrong_value(field: Field<'_>) -> WrongValue<'_> {
 
 /// The types of a set, as they are declared, cut if they are long.
 pub(crate) fn types_of(type_item: &[u8]) -> &[u8] {
-    let types = without_blanks(type_item.strip_prefix(b"type").unwrap_or(b""));
-    first_of(types, OF_TYPES)
+    let types = match type_item.strip_prefix(b"typeof") {
+        Some(expressions) => expressions,
+        None => type_item.strip_prefix(b"type").unwrap_or(b""),
+    };
+    first_of(without_blanks(types), OF_TYPES)
 }
 
 impl Explained {
@@ -537,7 +540,7 @@ impl Explained {
 
 /// The field of the set for which the next value is, if its kind is known.
 pub(crate) fn field_at<'a>(fault: Fault<'a>) -> Option<Field<'a>> {
-    let type_item = fault.set().item(b"type");
+    let type_item = fault.set().type_item();
     let number = count_of(fault.around.part, b".");
     Some(Field {
         word: fault.token,

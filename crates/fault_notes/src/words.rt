@@ -1,4 +1,5 @@
 //! Takes single words out of a part of a script.
+use crate::expressions::{is_typeof, kind_of_expression};
 use set_model::Kind;
 use token_forms::{Token, TokenKind, Tokens};
 
@@ -118,7 +119,10 @@ fn kind_of(word: &[u8]) -> Option<Kind> {
     None
 }
 
-/// The kind of a field, from 0, in a set's `type` item.
+/// The kind of a field, from 0, in a set's `type` or `typeof` item.
 pub(crate) fn kind_at(type_item: &[u8], field: u64) -> Option<Kind> {
+    if is_typeof(type_item) {
+        return kind_of_expression(type_item, field);
+    }
     kind_of(word_at(type_item, field.saturating_mul(2).saturating_add(1)))
 }
