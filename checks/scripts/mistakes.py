@@ -182,7 +182,6 @@ MISTAKES = [
     (declare("typeof iifname"), 2, 25, "'iifname' isn't part of an expression that is known here", EXPRESSIONS, "taken"),
     (declare("typeof ip sadr"), 2, 28, "'sadr' isn't part of an expression that is known here", "did you mean 'saddr'?", "syntax error, unexpected string"),
     (declare("typeof ipv4_addr . inet_service"), 2, 25, "'ipv4_addr' isn't part of an expression that is known here", EXPRESSIONS, "primary expression type 'symbol' lacks typeof serialization"),
-    (declare("typeof tcp"), 2, 28, "';' comes before the end of an expression", WHOLE_EXPRESSION, "syntax error, unexpected semicolon"),
     (declare("typeof tcp . ip saddr"), 2, 29, "'.' comes before the end of an expression", WHOLE_EXPRESSION, "syntax error, unexpected ."),
     (declare("typeof ip saddr tcp dport"), 2, 34, "'tcp' can't follow a whole expression", "write ' . ' between expressions", "syntax error, unexpected tcp, expecting newline or semicolon or ."),
     (declare("typeof ip saddr, tcp dport"), 2, 33, "',' can't follow a whole expression", "write ' . ' between expressions", "syntax error, unexpected comma, expecting newline or semicolon or ."),
