@@ -1,4 +1,3 @@
 pub mod RefusalLaws
-pub mod ShownLaws
 pub mod ToldLaws
 pub mod SourceLaws

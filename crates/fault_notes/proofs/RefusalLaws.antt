@@ -3,7 +3,7 @@ use Rattle.std.proofs.Common.{◌≡◌, sym, ◌∙◌, ap, subst, ℕ, ◌+◌
 use Rattle.std.specs.Prelude.{codes}
 use Rattle.std.proofs.Math.Seq.{take-suc}
 use Rattle.fault_notes.specs.declared.refused.RefusedChange.{RefusedChange}
-use Rattle.fault_notes.specs.Shown.{shown, name_text}
+use Rattle.token_notes.specs.Shown.{shown, name_text}
 use Rattle.fault_notes.specs.Refusals.{AreRefusalLines, more, IsRefusalLine, failure_text, line_feed}
 
 -- One line more.

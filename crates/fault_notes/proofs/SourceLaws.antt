@@ -2,8 +2,8 @@
 use Rattle.std.proofs.Common.{◌≡◌, ◌∙◌, sym, ap, subst, List, ℕ, Bool, true, false, [], ◌∷◌, ◌++◌, append_assoc, Result}
 use Rattle.std.specs.Prelude.{IfOk}
 use Rattle.token_forms.specs.declared.bad_token.BadToken.{BadToken}
-use Rattle.fault_notes.specs.Shown.{shown}
-use Rattle.fault_notes.specs.Source.{IsSaid, other_kind, shows_line, IsSaidAt, both_lines, source_text, before_token, of_token, after_token}
+use Rattle.token_notes.specs.Shown.{shown}
+use Rattle.token_notes.specs.Source.{IsSaid, other_kind, shows_line, IsSaidAt, both_lines, source_text, before_token, of_token, after_token}
 
 -- What is wrong, both lines, and then the rest.
 pub said-token : (lines a b c d e f h k : List ℕ) → b ≡ a ++ 10 ∷ [] → c ≡ b ++ lines → d ≡ c ++ h → e ≡ d ++ k → f ≡ e ++ 10 ∷ [] → IsSaid lines f false

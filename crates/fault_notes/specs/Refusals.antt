@@ -1,7 +1,7 @@
 -- The note on a run's refused changes.
 use Rattle.std.specs.Prelude.{◌≡◌, ℕ, ◌-◌, Bool, true, false, ◌==◌, if◌then◌else◌, List, [], ◌∷◌, ◌++◌, length, codes, decimal}
 use Rattle.fault_notes.specs.declared.refused.RefusedChange.{RefusedChange}
-use Rattle.fault_notes.specs.Shown.{shown, place_text, name_text}
+use Rattle.token_notes.specs.Shown.{shown, place_text, name_text}
 
 abbrev pub line_feed : List ℕ
 line_feed = 10 ∷ []

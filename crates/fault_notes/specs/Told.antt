@@ -1,7 +1,7 @@
 -- What is printed for a person.
 use Rattle.std.specs.Prelude.{◌≡◌, ℕ, Bool, true, false, List, All, Option}
 use Rattle.pip_base.specs.Notes.{Tells}
-use Rattle.fault_notes.specs.Shown.{IsNoteByte}
+use Rattle.token_notes.specs.Shown.{IsNoteByte}
 
 -- Either nothing was printed; or one text was, which moves no terminal, and for which this holds.
 pub data MayTell (IsNote : List ℕ → Type 0) (before now : Option (List ℕ)) : Type 0 where

@@ -1,39 +1,16 @@
 //! The note on a text that isn't in its grammar.
 ghost use Rattle.std.specs.Prelude.{◌≡◌, ℕ, Bool, true, false, List, IfOk, OnOk, codes};
-ghost use Rattle.fault_notes.specs.declared.help.TextKind.TheVariants as kinds;
-ghost use Rattle.fault_notes.specs.OtherKind.{is_other_kind as is_of_other_kind};
-ghost use Rattle.fault_notes.specs.Shown.{Begins, BeginsAtPlace, place_text};
-ghost use Rattle.fault_notes.specs.Source.{IsSaid, IsSaidAt, both_lines, source_text};
+ghost use Rattle.token_notes.specs.declared.help.TextKind.TheVariants as kinds;
+ghost use Rattle.token_notes.specs.OtherKind.{is_other_kind as is_of_other_kind};
+ghost use Rattle.token_notes.specs.Shown.{Begins, BeginsAtPlace, place_text};
+ghost use Rattle.token_notes.specs.Source.{IsSaid, IsSaidAt, both_lines, source_text};
 
-use crate::around::{Level, around_of};
-use crate::beside::{Beside, other_family};
-use crate::content::{is_other_kind, other_kind};
-use crate::explained::{Explained, Fault};
-use crate::families::explain_family;
-use crate::held::{explain_held, is_held};
-use crate::help::{
-    TextKind, explain_plainly, explain_reference, explain_slashes, explain_slashes_in_list,
-    is_slashes,
-};
-use crate::key_places::KeyPlace;
-use crate::keys::{KeyFault, explain_key, type_item};
-use crate::note::Note;
-use crate::other_tools::{explain_other_tool, other_tool};
-use crate::plans::explain_plan;
-use crate::rest::is_caused;
-use crate::rules::explain_rules;
-use crate::sets::explain_set;
-use crate::shell::{explain_backslash, explain_quoted_comment, is_quoted_comment};
-use crate::source::{Cut, cut_at};
-use crate::syntax::{
-    explain_left_out, explain_open, explain_syntax, explain_text_end, explain_type,
-    is_between_types, is_in_open,
-};
-use crate::times::explain_time;
-use crate::values::{explain_moment, explain_value};
+use key_advice::{KeyPlace, explain_in_key, explain_other_text};
+use script_advice::{explain_script, is_caused};
 use set_model::{Memory, Schema};
 use std::alloc::Global;
 use token_forms::{BadToken, Reason};
+use token_notes::{Cut, Explained, Note, TextKind, cut_at, is_other_kind, other_kind};
 
 /// The bad token between quotes, or the end that it is.
 fn token_note(alloc: Global, bad: BadToken, cut: Cut<'_>) -> Result<Note, Memory> {
@@ -46,44 +23,6 @@ fn token_note(alloc: Global, bad: BadToken, cut: Cut<'_>) -> Result<Note, Memory
         note.quoted(cut.token)?;
     }
     Ok(note)
-}
-
-/// Explains the bad token of a script.
-fn explain_in_script(said: &mut Explained, fault: Fault<'_>, reason: Reason) -> Result<(), Memory> {
-    let is_name = fault.around.level == Level::Statement && !fault.around.part.is_empty();
-    if let Some(tool) = other_tool(fault) {
-        return explain_other_tool(said, tool);
-    }
-    match reason {
-        Reason::Character if is_name && fault.token.first() == Some(&b'@') => {
-            explain_reference(said)
-        }
-        Reason::Character if fault.token == b"\\".as_slice() => explain_backslash(said, fault),
-        Reason::Character if is_quoted_comment(fault) => explain_quoted_comment(said),
-        Reason::Character | Reason::End => explain_by_reason(said, fault, reason),
-        _ if is_slashes(fault.token) && fault.around.level == Level::Elements => {
-            explain_slashes_in_list(said)
-        }
-        _ if is_slashes(fault.token) && !is_between_types(fault) => explain_slashes(said),
-        _ if is_in_open(fault) => explain_open(said, fault),
-        _ if is_held(fault) => explain_held(said, fault),
-        _ => explain_by_reason(said, fault, reason),
-    }
-}
-
-/// Explains the bad token of a script by its reason.
-fn explain_by_reason(said: &mut Explained, fault: Fault<'_>, reason: Reason) -> Result<(), Memory> {
-    match reason {
-        Reason::Value => explain_value(said, fault),
-        Reason::Statement => explain_syntax(said, fault),
-        Reason::End => explain_text_end(said, fault),
-        Reason::Set => explain_set(said, fault),
-        Reason::TypeWord => explain_type(said, fault),
-        Reason::Moment => explain_moment(said, fault),
-        Reason::Time => explain_time(said, fault.token),
-        Reason::LeftOut => explain_left_out(said, fault),
-        _ => explain_plainly(said, TextKind::Script, reason, fault.token),
-    }
 }
 
 /// What is wrong, the line with carets under the token, and what to do.
@@ -114,16 +53,8 @@ fn told_as(alloc: Global, what: &[u8]) -> Result<Note, Memory>
 fn said_at(alloc: Global, text: &[u8], bad: BadToken, cut: Cut<'_>) -> Result<Note, Memory>
     ensures { IfOk result (λ note. IsSaid (both_lines cut.entry.front.now cut.entry.token.now cut.entry.behind.now) note.bytes.items false) }
 {
-    let mut sets = Vec::new(alloc);
-    let around = around_of(text, bad.at, &mut sets)?;
-    let fault = Fault {
-        at: bad.at,
-        token: cut.token,
-        around,
-        sets: sets.as_slice(),
-    };
     let mut said = Explained::new(alloc);
-    explain_in_script(&mut said, fault, bad.reason)?;
+    explain_script(&mut said, text, bad, cut)?;
     with_source(alloc, &said, bad, cut)
 }
 
@@ -134,55 +65,19 @@ fn said_of_script(alloc: Global, text: &[u8], bad: BadToken) -> Result<Note, Mem
     said_at(alloc, text, bad, cut_at(text, bad))
 }
 
-/// Explains a bad token of a key.
-fn explain_in_key(
-    said: &mut Explained,
+/// What a note says after the place of the bad token of a key that is no text of another kind. The token is in its line
+/// `cut`.
+fn said_of_key(
+    alloc: Global,
     place: KeyPlace,
     schema: &Schema,
     bad: BadToken,
     cut: Cut<'_>,
-) -> Result<(), Memory> {
-    match other_family(schema, cut.front) {
-        Some(word) if bad.reason == Reason::Set && !cut.line.contains(&b'>') => {
-            return explain_family(said, word);
-        }
-        _ => {}
-    }
-    let type_item = type_item(said.alloc, schema, cut.line)?;
-    let fault = KeyFault {
-        place,
-        line: cut.line,
-        before: cut.front,
-        behind: cut.behind,
-        token: cut.token,
-        reason: bad.reason,
-    };
-    explain_key(said, schema, type_item.as_slice(), fault)
-}
-
-/// Explains a bad token of a rules file or a plan.
-fn explain_beside(
-    said: &mut Explained,
-    kind: TextKind,
-    schema: &Schema,
-    fault: Beside<'_>,
-) -> Result<(), Memory> {
-    if is_slashes(fault.token) && fault.reason != Reason::Set {
-        return explain_slashes(said);
-    }
-    match kind {
-        TextKind::Plan => explain_plan(said, schema, fault),
-        _ => explain_rules(said, schema, fault),
-    }
-}
-
-/// What a note says after the place of the bad token of a key file that is no text of another kind. The token is in its line
-/// `cut`.
-fn said_of_key(alloc: Global, schema: &Schema, bad: BadToken, cut: Cut<'_>) -> Result<Note, Memory>
+) -> Result<Note, Memory>
     ensures { IfOk result (λ note. IsSaid (both_lines cut.entry.front.now cut.entry.token.now cut.entry.behind.now) note.bytes.items false) }
 {
     let mut said = Explained::new(alloc);
-    explain_in_key(&mut said, KeyPlace::File, schema, bad, cut)?;
+    explain_in_key(&mut said, place, schema, bad, cut)?;
     with_source(alloc, &said, bad, cut)
 }
 
@@ -199,22 +94,7 @@ fn said_beside(
 {
     let cut = cut_at(text, bad);
     let mut said = Explained::new(alloc);
-    match kind {
-        TextKind::Keys => explain_in_key(&mut said, KeyPlace::File, schema, bad, cut)?,
-        _ => {
-            let (before, behind) = text.split_at(text.len().min(bad.at as usize));
-            let fault = Beside {
-                text,
-                before,
-                behind,
-                line: cut.line,
-                front: cut.front,
-                token: cut.token,
-                reason: bad.reason,
-            };
-            explain_beside(&mut said, kind, schema, fault)?
-        }
-    }
+    explain_other_text(&mut said, kind, schema, text, bad, cut)?;
     with_source(alloc, &said, bad, cut)
 }
 
@@ -306,19 +186,6 @@ const AT_FRONT: BadToken = BadToken {
     reason: Reason::Statement,
 };
 
-/// What a note says after the place of the bad token in the words of a `get`.
-fn said_of_words(
-    alloc: Global,
-    schema: &Schema,
-    words: &[u8],
-    bad: BadToken,
-) -> Result<Note, Memory> {
-    let cut = cut_at(words, bad);
-    let mut said = Explained::new(alloc);
-    explain_in_key(&mut said, KeyPlace::Get, schema, bad, cut)?;
-    with_source(alloc, &said, bad, cut)
-}
-
 /// What a note says of words of a `get` that a key file could have, and that name no packet or several.
 fn said_of_packets(alloc: Global, words: &[u8]) -> Result<Note, Memory> {
     let (wrong, help): (&[u8], &[u8]) = if words.contains(&b'\n') {
@@ -364,7 +231,8 @@ pub fn bad_key_note(
 {
     match found {
         Some(bad) => {
-            let behind = said_of_words(alloc, schema, words, bad)?;
+            let cut = cut_at(words, bad);
+            let behind = said_of_key(alloc, KeyPlace::Get, schema, bad, cut)?;
             key_note(alloc, bad, &behind)
         }
         None => {
@@ -425,6 +293,6 @@ pub fn further_key_note(
     ensures source { IfOk result (λ note. IsSaidAt (place_text name.now bad.line bad.column) (source_text text.now bad) false note.bytes.items) }
 {
     let cut = cut_at(text, bad);
-    let behind = said_of_key(alloc, schema, bad, cut)?;
+    let behind = said_of_key(alloc, KeyPlace::File, schema, bad, cut)?;
     placed_note(alloc, name, bad, &behind)
 }

@@ -1,11 +1,11 @@
 //! The note on a file that is no capture.
 ghost use Rattle.std.specs.Prelude.{IfOk, ◌≤◌, ◌+◌, length};
-ghost use Rattle.fault_notes.specs.Shown.{Begins, byte_text};
+ghost use Rattle.token_notes.specs.Shown.{Begins, byte_text};
 
-use crate::note::Note;
 use pcap_keys::CaptureReason;
 use set_model::Memory;
 use std::alloc::Global;
+use token_notes::Note;
 
 /// The place of the link type in libpcap's classic format.
 const LINK_TYPE: usize = 20;
@@ -61,65 +61,63 @@ fn interface_link(file: &[u8], byte: u64) -> Option<u64> {
     }
 }
 
-impl Note {
-    /// Adds the link type at this byte and that it isn't supported.
-    fn foreign_link(&mut self, file: &[u8], byte: u64) -> Result<(), Memory> {
-        let number = if is_sections(file) {
-            interface_link(file, byte)
-        } else {
-            classic_link(file)
-        };
-        if let Some(number) = number {
-            self.say(b"its link type is ")?;
-            self.number(number)?;
-            self.say(b": ")?;
-        }
-        self.say(
-            b"Ethernet (1), raw IP (12, 14, 101, 228, 229) and Linux cooked capture (113, 276) are supported",
-        )
+/// Adds the link type at this byte and that it isn't supported.
+fn add_foreign_link(note: &mut Note, file: &[u8], byte: u64) -> Result<(), Memory> {
+    let number = if is_sections(file) {
+        interface_link(file, byte)
+    } else {
+        classic_link(file)
+    };
+    if let Some(number) = number {
+        note.say(b"its link type is ")?;
+        note.number(number)?;
+        note.say(b": ")?;
     }
+    note.say(
+        b"Ethernet (1), raw IP (12, 14, 101, 228, 229) and Linux cooked capture (113, 276) are supported",
+    )
+}
 
-    /// Adds that a file is cut at this byte.
-    fn cut_here(&mut self, file: &[u8], byte: u64) -> Result<(), Memory> {
-        if is_sections(file) {
-            self.say(b"the block that begins here isn't there as a whole: the first ")?;
-        } else if byte == 0 {
-            return self.say(b"the file has fewer bytes than the 24 of a capture's header");
-        } else {
-            self.say(b"the record that begins here isn't there as a whole: the first ")?;
-        }
-        self.number(byte)?;
-        self.say(b" bytes are a capture")
+/// Adds that a file is cut at this byte.
+fn add_cut(note: &mut Note, file: &[u8], byte: u64) -> Result<(), Memory> {
+    if is_sections(file) {
+        note.say(b"the block that begins here isn't there as a whole: the first ")?;
+    } else if byte == 0 {
+        return note.say(b"the file has fewer bytes than the 24 of a capture's header");
+    } else {
+        note.say(b"the record that begins here isn't there as a whole: the first ")?;
     }
+    note.number(byte)?;
+    note.say(b" bytes are a capture")
+}
 
-    /// Adds what is wrong with a capture.
-    fn capture_fault(
-        &mut self,
-        file: &[u8],
-        byte: u64,
-        reason: CaptureReason,
-    ) -> Result<(), Memory> {
-        match reason {
-            CaptureReason::Magic if is_sections(file) => {
-                self.say(b"the magic of this section header isn't 0x1a2b3c4d in either byte order")
-            }
-            CaptureReason::Magic => self.say(by_magic(file)),
-            CaptureReason::Cut => self.cut_here(file, byte),
-            CaptureReason::Version if is_sections(file) => {
-                self.say(b"the version of this section isn't 1.0")
-            }
-            CaptureReason::Version => self.say(b"its version isn't 2.4"),
-            CaptureReason::LinkType => self.foreign_link(file, byte),
-            CaptureReason::Length => self.say(
-                b"a length in this block isn't a multiple of four, doesn't fit the block, or differs from its copy",
-            ),
-            CaptureReason::Interface => {
-                self.say(b"the interface of this packet isn't described in its section")
-            }
-            CaptureReason::Options => self.say(
-                b"an option of this interface isn't whole, or is no if_tsresol down to 10^-19 or 2^-63, or no if_tsoffset",
-            ),
+/// Adds what is wrong with a capture.
+fn add_capture_fault(
+    note: &mut Note,
+    file: &[u8],
+    byte: u64,
+    reason: CaptureReason,
+) -> Result<(), Memory> {
+    match reason {
+        CaptureReason::Magic if is_sections(file) => {
+            note.say(b"the magic of this section header isn't 0x1a2b3c4d in either byte order")
         }
+        CaptureReason::Magic => note.say(by_magic(file)),
+        CaptureReason::Cut => add_cut(note, file, byte),
+        CaptureReason::Version if is_sections(file) => {
+            note.say(b"the version of this section isn't 1.0")
+        }
+        CaptureReason::Version => note.say(b"its version isn't 2.4"),
+        CaptureReason::LinkType => add_foreign_link(note, file, byte),
+        CaptureReason::Length => note.say(
+            b"a length in this block isn't a multiple of four, doesn't fit the block, or differs from its copy",
+        ),
+        CaptureReason::Interface => {
+            note.say(b"the interface of this packet isn't described in its section")
+        }
+        CaptureReason::Options => note.say(
+            b"an option of this interface isn't whole, or is no if_tsresol down to 10^-19 or 2^-63, or no if_tsoffset",
+        ),
     }
 }
 
@@ -139,7 +137,7 @@ pub fn capture_note(
     ensures byte { IfOk result (λ note. Begins (byte_text name.now byte) note.bytes.items) }
 {
     let mut said = Note::new(alloc);
-    said.capture_fault(file, byte, reason)?;
+    add_capture_fault(&mut said, file, byte, reason)?;
     said.end_line()?;
     let mut note = Note::new(alloc);
     note.byte_place(name.as_bytes(), byte)?;

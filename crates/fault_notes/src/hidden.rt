@@ -2,9 +2,9 @@
 ghost use Rattle.std.specs.Prelude.{◌≡◌, IfOk};
 ghost use Rattle.fault_notes.specs.Hidden.{hidden_text};
 
-use crate::note::Note;
 use set_model::Memory;
 use std::alloc::Global;
+use token_notes::Note;
 
 /// The line after the last error of a script that is shown, if there are more: `NAME: ` and that they aren't shown.
 ///

@@ -32,53 +32,23 @@
 //! **Theory:** docs/formats.md, "The standard error".
 #![tactic(auto)]
 
-mod around;
 mod bad;
-mod beside;
 mod captures;
-mod chains;
-mod content;
-mod explained;
-mod expressions;
-mod families;
-mod files;
-mod held;
-mod help;
 mod hidden;
-mod key_places;
-mod key_values;
-mod keys;
-mod near;
-mod note;
-mod other_tools;
-mod plans;
 mod refusals;
 mod refused;
-mod rest;
-mod rules;
-mod selectors;
-mod sets;
-mod shell;
-mod source;
-mod syntax;
-mod times;
 mod told;
-mod values;
-mod words;
 
 pub use bad::{bad_key_note, bad_script_note, bad_text_note, further_key_note, further_note};
 pub use captures::capture_note;
-pub use content::is_other_kind;
-pub use explained::Explained;
-pub use files::{
-    explained_note, output_fault_note, read_fault_note, too_large_note, too_many_clerks_note,
-};
-pub use help::TextKind;
 pub use hidden::hidden_note;
-pub use note::Note;
 pub use pcap_keys::CaptureReason;
 pub use refusals::refusals_note;
 pub use refused::{Met, RefusedChange, RefusedChanges};
-pub use rest::{without_key_line, without_statement};
+pub use script_advice::{without_key_line, without_statement};
 pub use token_forms::BadToken;
+pub use token_notes::{
+    Explained, Note, TextKind, explained_note, is_other_kind, output_fault_note, read_fault_note,
+    too_large_note, too_many_clerks_note,
+};
 pub use told::tell_note;

@@ -2,15 +2,14 @@
 ghost use Rattle.std.specs.Prelude.{◌≡◌, ◌++◌, List, ℕ, OnOk, IfOk};
 ghost use Rattle.fault_notes.specs.Refusals.{AreRefusalLines, IsRefusalLine, IsRefusalsNote, failure_text, more_words as words_on_more, rest_text};
 
-use crate::note::Note;
 use crate::refused::{Met, RefusedChange, RefusedChanges};
-use crate::source::last_line;
 use addr_text::{read_interval, write_interval};
 use set_model::{Interval, Kind, Memory, Script, Step, Why, is_good};
 use std::alloc::Global;
 use text_pieces::Piece::{Number, Word};
 use text_pieces::{append, append_pieces};
 use token_forms::{Token, TokenKind, Tokens};
+use token_notes::{Note, last_line};
 
 /// A change of an element: its line, and the element's intervals.
 #[derive(Clone, Copy)]

@@ -1,5 +1,5 @@
 //! A refused change of a run, as a note has it.
-use set_model::{Family, SetDecl, Step, Why};
+use set_model::{Step, Why};
 
 /// A refused change of a script.
 #[derive(Clone, Copy, Debug, PartialEq, Eq)]
@@ -32,37 +32,4 @@ pub struct RefusedChanges<'a> {
     pub count: u64,
     /// Whether the output shows the generation before a last transaction that failed.
     pub failed: bool,
-}
-
-/// A set by its three words.
-#[derive(Clone, Copy)]
-pub(crate) struct SetWords<'a> {
-    pub(crate) family: &'a [u8],
-    pub(crate) table: &'a [u8],
-    pub(crate) name: &'a [u8],
-}
-
-fn family_word(family: Family) -> &'static [u8] {
-    match family {
-        Family::Ip => b"ip",
-        Family::Ip6 => b"ip6",
-        Family::Inet => b"inet",
-        Family::Arp => b"arp",
-        Family::Bridge => b"bridge",
-        Family::Netdev => b"netdev",
-    }
-}
-
-/// The three words of a set that is declared.
-pub(crate) fn words_of(set: &SetDecl) -> SetWords<'_> {
-    SetWords {
-        family: family_word(set.family),
-        table: set.table.as_slice(),
-        name: set.name.as_slice(),
-    }
-}
-
-/// Whether two sets have the same words.
-pub(crate) fn is_same(words: SetWords<'_>, others: SetWords<'_>) -> bool {
-    words.family == others.family && words.table == others.table && words.name == others.name
 }

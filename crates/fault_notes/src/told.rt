@@ -3,9 +3,9 @@ ghost use Rattle.std.specs.Prelude.{◌≡◌, false, IfOk, OnErr};
 ghost use Rattle.pip_base.specs.Notes.{Tells};
 ghost use Rattle.fault_notes.specs.Told.{MayTell, SaysTold};
 
-use crate::note::Note;
 use pip_base::Notes;
 use set_model::Memory;
+use token_notes::Note;
 
 /// Prints a note, and returns whether it did so. It prints nothing if memory ran out for the note.
 pub fn tell_note<N: Notes>(notes: &mut N, made: Result<Note, Memory>) -> bool

@@ -8,11 +8,11 @@ use Rattle.token_forms.specs.BadTokens.{IsBadToken, IsBadTokenAmong}
 use Rattle.token_forms.specs.Form.{Form}
 use Rattle.token_forms.specs.Token.{Lexeme}
 use Rattle.pcap_keys.specs.declared.error.CaptureReason.{CaptureReason}
-use Rattle.fault_notes.specs.declared.help.TextKind.{TextKind}
-use Rattle.fault_notes.specs.declared.help.TextKind.TheVariants as kinds
-use Rattle.fault_notes.specs.OtherKind.{is_other_kind}
-use Rattle.fault_notes.specs.Shown.{Begins, place_text, byte_text}
-use Rattle.fault_notes.specs.Source.{IsSaidAt, source_text}
+use Rattle.token_notes.specs.declared.help.TextKind.{TextKind}
+use Rattle.token_notes.specs.declared.help.TextKind.TheVariants as kinds
+use Rattle.token_notes.specs.OtherKind.{is_other_kind}
+use Rattle.token_notes.specs.Shown.{Begins, place_text, byte_text}
+use Rattle.token_notes.specs.Source.{IsSaidAt, source_text}
 use Rattle.fault_notes.specs.Told.{MayTell}
 use Rattle.fault_notes.proofs.ToldLaws.{tells-as}
 use Rattle.input_files.specs.declared.fault.Flaw.TheVariants as flaws
@@ -22,7 +22,7 @@ use Rattle.token_forms.specs.TextTokens.{text_tokens}
 use Rattle.set_script.specs.Script.{script as script_form}
 use Rattle.ruleset_sets.specs.Kept.{IsKept, all_taken}
 use Rattle.ruleset_sets.specs.RulesetText.{HoldsOfKept}
-use Rattle.fault_notes.specs.Blanked.{blanked}
+use Rattle.script_advice.specs.Blanked.{blanked}
 use Rattle.fault_notes.specs.Hidden.{hidden_text}
 use Rattle.input_files.specs.Noted.{IsOnToken, IsPlacedBy, NamesBadToken, NamesFurther, IsNoteOn, AreFurther, no_more, hidden, one_more, IsNoteFrom, IsNotedFrom, NamesBadTokens, NamesScriptTokens}
 

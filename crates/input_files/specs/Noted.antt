@@ -12,13 +12,13 @@ use Rattle.ruleset_sets.specs.RulesetText.{HoldsOfKept}
 use Rattle.key_file.specs.Keys.{key_file}
 use Rattle.rule_chain.specs.Rules.{rules_file}
 use Rattle.pcap_keys.specs.Plans.{plan as plan_form}
-use Rattle.fault_notes.specs.Blanked.{blanked}
-use Rattle.fault_notes.specs.declared.help.TextKind.{TextKind}
-use Rattle.fault_notes.specs.declared.help.TextKind.TheVariants as kinds
+use Rattle.script_advice.specs.Blanked.{blanked}
+use Rattle.token_notes.specs.declared.help.TextKind.{TextKind}
+use Rattle.token_notes.specs.declared.help.TextKind.TheVariants as kinds
 use Rattle.fault_notes.specs.Hidden.{hidden_text}
-use Rattle.fault_notes.specs.OtherKind.{is_other_kind}
-use Rattle.fault_notes.specs.Shown.{Begins, place_text, byte_text, name_text}
-use Rattle.fault_notes.specs.Source.{IsSaidAt, source_text}
+use Rattle.token_notes.specs.OtherKind.{is_other_kind}
+use Rattle.token_notes.specs.Shown.{Begins, place_text, byte_text, name_text}
+use Rattle.token_notes.specs.Source.{IsSaidAt, source_text}
 use Rattle.fault_notes.specs.Told.{MayTell}
 use Rattle.input_files.specs.declared.fault.Flaw.{Flaw}
 use Rattle.input_files.specs.declared.fault.Flaw.TheVariants as flaws

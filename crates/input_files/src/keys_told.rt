@@ -1,6 +1,6 @@
 //! Prints where a key file isn't in its form: its bad token, and those of the lines after it.
 ghost use Rattle.std.specs.Prelude.{◌≤◌, length, IfOk};
-ghost use Rattle.fault_notes.specs.declared.help.TextKind.TheVariants as kinds;
+ghost use Rattle.token_notes.specs.declared.help.TextKind.TheVariants as kinds;
 ghost use Rattle.fault_notes.specs.Told.{SaysTold};
 ghost use Rattle.key_file.specs.Keys.{key_file as key_form};
 ghost use Rattle.set_script.specs.Limits.{most_sets};

@@ -1,7 +1,7 @@
 //! Prints where a script isn't in its grammar: its bad token, and those of the statements after it.
 ghost use Rattle.std.specs.Prelude.{IfOk};
 ghost use Rattle.fault_notes.specs.Told.{SaysTold};
-ghost use Rattle.fault_notes.specs.declared.help.TextKind.TheVariants as kinds;
+ghost use Rattle.token_notes.specs.declared.help.TextKind.TheVariants as kinds;
 ghost use Rattle.set_script.specs.Script.{script as script_form};
 ghost use Rattle.input_files.specs.Noted.{AreFurther, IsNoteFrom, IsNotedFrom};
 

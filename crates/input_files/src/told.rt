@@ -1,5 +1,5 @@
 //! Prints notes on files that failed. Each call returns whether it printed one: it doesn't if memory runs out for the note.
-ghost use Rattle.fault_notes.specs.Shown.{Begins, byte_text, name_text};
+ghost use Rattle.token_notes.specs.Shown.{Begins, byte_text, name_text};
 ghost use Rattle.fault_notes.specs.Told.{SaysTold};
 ghost use Rattle.input_files.specs.Noted.{IsPlacedBy};
 

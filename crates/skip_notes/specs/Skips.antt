@@ -5,7 +5,7 @@ use Rattle.ruleset_sets.specs.declared.role_token.RoleToken.{RoleToken}
 use Rattle.ruleset_sets.specs.declared.sieve.SkipReason.{SkipReason}
 use Rattle.ruleset_sets.specs.declared.sieve.SkipReason.TheVariants as reasons
 use Rattle.ruleset_sets.specs.declared.skipped.Skipped.{Skipped}
-use Rattle.fault_notes.specs.Shown.{shown}
+use Rattle.token_notes.specs.Shown.{shown}
 
 -- what becomes of a thing that isn't kept, and why
 abbrev pub reason_words : SkipReason → List ℕ

@@ -1,10 +1,10 @@
 //! The note on what isn't kept of a ruleset.
 ghost use Rattle.std.specs.Prelude.{◌≡◌, ◌++◌, [], All, OnOk, IfOk};
-ghost use Rattle.fault_notes.specs.Shown.{IsNoteByte};
+ghost use Rattle.token_notes.specs.Shown.{IsNoteByte};
 ghost use Rattle.skip_notes.specs.Skips.{skip_line, skips_text};
 
 use crate::line::append_said;
-use fault_notes::Note;
+use token_notes::Note;
 use ruleset_sets::Skipped;
 use set_model::Memory;
 use std::alloc::Global;

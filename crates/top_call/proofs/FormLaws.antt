@@ -10,7 +10,7 @@ use Rattle.command_words.specs.ScriptForms.{rulesets_of, scripts_of}
 use Rattle.command_words.specs.WordForms.{plain_task}
 use Rattle.command_words.specs.Words.{Command, IsCommand}
 use Rattle.command_words.proofs.CommandWords.{one-command}
-use Rattle.fault_notes.specs.Shown.{IsNoteByte}
+use Rattle.token_notes.specs.Shown.{IsNoteByte}
 use Rattle.pip_base.specs.Notes.{Tells}
 use Rattle.input_files.specs.Seen.{AreAllSkips}
 use Rattle.top_call.specs.Calls.{Call}

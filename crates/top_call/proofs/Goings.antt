@@ -7,7 +7,7 @@ use Rattle.command_words.specs.declared.page.Page.{Page}
 use Rattle.command_words.specs.WordForms.{page_text}
 use Rattle.command_words.specs.Words.{Command, IsCommand, IsNoCommand, AsksFor, desk, get, sets_of}
 use Rattle.command_words.proofs.PageWords.{page-no-command}
-use Rattle.fault_notes.specs.Shown.{Begins, BeginsAtPlace, name_text}
+use Rattle.token_notes.specs.Shown.{Begins, BeginsAtPlace, name_text}
 use Rattle.set_model.specs.declared.script.SetDecl.{SetDecl}
 use Rattle.token_forms.specs.declared.bad_token.BadToken.{BadToken}
 use Rattle.fault_notes.specs.Told.{MayTell, nothing as no_note}

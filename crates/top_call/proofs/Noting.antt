@@ -4,7 +4,7 @@ use Rattle.command_words.specs.declared.page.Page.{Page}
 use Rattle.command_words.specs.Words.{Command, IsCommand, IsNoCommand, IsSetsCommand, AsksFor, desk, get, compare, sets_of}
 use Rattle.command_words.proofs.PageWords.{page-no-command}
 use Rattle.std.proofs.Common.{codes}
-use Rattle.fault_notes.specs.Shown.{Begins, BeginsAtPlace, name_text}
+use Rattle.token_notes.specs.Shown.{Begins, BeginsAtPlace, name_text}
 use Rattle.token_forms.specs.declared.token.Reason.{Reason}
 use Rattle.skip_notes.specs.Skips.{skips_text}
 use Rattle.fault_notes.specs.Told.{MayTell, nothing, note, SaysTold, did_tell, told_nothing}

@@ -6,7 +6,7 @@ use Rattle.command_words.specs.declared.form.ScriptForm.TheVariants as forms
 use Rattle.command_words.specs.ScriptForms.{scripts_of}
 use Rattle.command_words.specs.Words.{Command, IsCommand, compare}
 use Rattle.pip_base.specs.Notes.{Tells}
-use Rattle.fault_notes.specs.Shown.{IsNoteByte}
+use Rattle.token_notes.specs.Shown.{IsNoteByte}
 use Rattle.input_files.specs.Seen.{AreAllSkips, seen}
 use Rattle.top_call.specs.Answers.{IsComplete}
 use Rattle.top_call.specs.Calls.{Call}

@@ -1,7 +1,7 @@
 -- The note for a person beside a call's output.
 use Rattle.std.specs.Prelude.{◌≡◌, ◌⊎◌, ℕ, true, List, codes, Bool, Option, Some}
 use Rattle.command_words.specs.Words.{Command, IsCommand, IsNoCommand, IsSetsCommand}
-use Rattle.fault_notes.specs.Shown.{Begins, BeginsAtPlace, name_text}
+use Rattle.token_notes.specs.Shown.{Begins, BeginsAtPlace, name_text}
 use Rattle.key_answer.specs.declared.question.AnswerError.{AnswerError}
 use Rattle.key_answer.specs.declared.question.AnswerError.TheVariants.{BadKey, Memory}
 use Rattle.token_forms.specs.declared.token.Reason.{Reason}

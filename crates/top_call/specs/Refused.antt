@@ -11,7 +11,7 @@ use Rattle.command_words.specs.Words.{Command, run, list, dump, drill, judge, ca
 use Rattle.set_model.specs.declared.memory.Memory.{Memory}
 use Rattle.pip_base.specs.Notes.{Tells}
 use Rattle.fault_notes.specs.declared.refused.RefusedChange.{RefusedChange}
-use Rattle.fault_notes.specs.Shown.{IsNoteByte}
+use Rattle.token_notes.specs.Shown.{IsNoteByte}
 use Rattle.fault_notes.specs.Refusals.{IsRefusalsNote}
 use Rattle.input_files.specs.Inputs.{Input, inputs}
 use Rattle.input_files.specs.declared.work.Work.{Work}

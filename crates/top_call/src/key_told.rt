@@ -1,6 +1,6 @@
 //! The note for a person on words of a `get` that are no key.
 ghost use Rattle.std.specs.Prelude.{IfOk, codes};
-ghost use Rattle.fault_notes.specs.Shown.{BeginsAtPlace};
+ghost use Rattle.token_notes.specs.Shown.{BeginsAtPlace};
 ghost use Rattle.fault_notes.specs.Told.{SaysTold};
 ghost use Rattle.top_call.specs.Noted.{IsErrorNote};
 

@@ -1,7 +1,7 @@
 //! Notes for a person, on refused changes and on a desk's script that has too many sections.
 ghost use Rattle.std.specs.Prelude.{◌≡◌, map, take, IfOk, OnOk, OnErr};
 ghost use Rattle.command_words.specs.WordForms.{plain};
-ghost use Rattle.fault_notes.specs.Shown.{Begins, name_text};
+ghost use Rattle.token_notes.specs.Shown.{Begins, name_text};
 ghost use Rattle.top_call.specs.Refused.{HasTold, IsNoteOnChanges, TellsChanges, TellsOf, change_of as as_told, most_told};
 
 use command_words::Command;

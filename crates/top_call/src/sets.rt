@@ -2,7 +2,7 @@
 ghost use Rattle.std.specs.Prelude.{◌≡◌, ◌≢◌, [], All};
 ghost use Rattle.std.specs.List.{list_any};
 ghost use Rattle.skip_notes.specs.Skips.{skips_text};
-ghost use Rattle.fault_notes.specs.Shown.{IsNoteByte};
+ghost use Rattle.token_notes.specs.Shown.{IsNoteByte};
 ghost use Rattle.fault_notes.specs.Told.{MayTell, SaysTold};
 ghost use Rattle.pip_base.specs.Notes.{Tells};
 ghost use Rattle.ruleset_sets.specs.RulesetText.{leaves_out};

@@ -1,6 +1,6 @@
 //! The note for a person on words that are no command.
 ghost use Rattle.std.specs.Prelude.{codes};
-ghost use Rattle.fault_notes.specs.Shown.{Begins, name_text};
+ghost use Rattle.token_notes.specs.Shown.{Begins, name_text};
 ghost use Rattle.fault_notes.specs.Told.{SaysTold};
 
 use fault_notes::tell_note;

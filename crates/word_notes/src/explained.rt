@@ -3,7 +3,7 @@ use crate::fault::{NumberOf, WordFault};
 use crate::form::{MOST_NAMES, OPTIONS, form_of, long_option, name_at, takes};
 use crate::habits::{EarlyOption, FileOption, is_name_option};
 use command_words::Verb;
-use fault_notes::Explained;
+use token_notes::Explained;
 use set_model::Memory;
 use text_pieces::Piece;
 

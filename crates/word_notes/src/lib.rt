@@ -26,11 +26,11 @@ mod missing;
 mod seen;
 
 ghost use Rattle.std.specs.Prelude.{codes, IfOk};
-ghost use Rattle.fault_notes.specs.Shown.{Begins, name_text};
+ghost use Rattle.token_notes.specs.Shown.{Begins, name_text};
 
 use crate::explained::explain;
 use crate::fault::fault_of;
-use fault_notes::{Explained, Note, explained_note};
+use token_notes::{Explained, Note, explained_note};
 pub use missing::unread_note;
 use set_model::Memory;
 use std::alloc::Global;

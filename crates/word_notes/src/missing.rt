@@ -1,10 +1,10 @@
 //! The note on a file that can't be read.
 ghost use Rattle.std.specs.Prelude.{IfOk};
-ghost use Rattle.fault_notes.specs.Shown.{Begins, name_text};
+ghost use Rattle.token_notes.specs.Shown.{Begins, name_text};
 
 use crate::explained::FROM_NFT;
 use crate::habits::{is_family, is_noun};
-use fault_notes::{Explained, Note, explained_note, read_fault_note};
+use token_notes::{Explained, Note, explained_note, read_fault_note};
 use pip_base::FaultKind;
 use set_model::Memory;
 use std::alloc::Global;

@@ -1,7 +1,7 @@
 use Rattle.std.proofs.Common.{[], ◌∷◌}
 use Rattle.std.specs.Prelude.{codes}
 use Rattle.std.proofs.lemmas.Result.{on_ok_weaker}
-use Rattle.fault_notes.specs.Shown.{shown}
+use Rattle.token_notes.specs.Shown.{shown}
 use Rattle.fault_notes.proofs.SourceLaws.{said-more}
 use Rattle.fault_notes.proofs.bad.add_cause.Goals as goal
 

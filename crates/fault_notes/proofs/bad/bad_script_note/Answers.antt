@@ -1,6 +1,6 @@
-use Rattle.fault_notes.specs.declared.help.TextKind.TheVariants as kinds
-use Rattle.fault_notes.specs.OtherKind.{is_other_kind}
-use Rattle.fault_notes.specs.Source.{source_text}
+use Rattle.token_notes.specs.declared.help.TextKind.TheVariants as kinds
+use Rattle.token_notes.specs.OtherKind.{is_other_kind}
+use Rattle.token_notes.specs.Source.{source_text}
 use Rattle.fault_notes.proofs.bad.bad_script_note.Goals as goal
 
 pub returns-clause-source : goal.returns-clause-source

@@ -1,5 +1,5 @@
-use Rattle.fault_notes.specs.OtherKind.{is_other_kind}
-use Rattle.fault_notes.specs.Source.{source_text}
+use Rattle.token_notes.specs.OtherKind.{is_other_kind}
+use Rattle.token_notes.specs.Source.{source_text}
 use Rattle.fault_notes.proofs.bad.bad_text_note.Goals as goal
 
 pub returns-clause-source : goal.returns-clause-source

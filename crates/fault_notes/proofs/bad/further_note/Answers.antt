@@ -1,5 +1,5 @@
 use Rattle.std.specs.Prelude.{false}
-use Rattle.fault_notes.specs.Source.{IsSaid, source_text}
+use Rattle.token_notes.specs.Source.{IsSaid, source_text}
 use Rattle.fault_notes.proofs.SourceLaws.{cut-said}
 use Rattle.fault_notes.proofs.bad.further_note.Goals as goal
 

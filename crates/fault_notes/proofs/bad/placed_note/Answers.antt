@@ -1,5 +1,5 @@
 use Rattle.std.proofs.Common.{rules}
-use Rattle.fault_notes.specs.Shown.{place_text}
+use Rattle.token_notes.specs.Shown.{place_text}
 use Rattle.fault_notes.proofs.SourceLaws.{said_at}
 use Rattle.fault_notes.proofs.bad.placed_note.Goals as goal
 

@@ -1,5 +1,5 @@
 use Rattle.std.specs.Prelude.{false}
-use Rattle.fault_notes.specs.declared.note.Note.{Note}
+use Rattle.token_notes.specs.declared.note.Note.{Note}
 use Rattle.fault_notes.proofs.SourceLaws.{cut-made}
 use Rattle.fault_notes.proofs.bad.said_beside.Goals as goal
 

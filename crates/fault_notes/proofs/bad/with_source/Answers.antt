@@ -1,6 +1,6 @@
 use Rattle.std.specs.Prelude.{codes}
-use Rattle.fault_notes.specs.Shown.{shown}
-use Rattle.fault_notes.specs.Source.{both_lines}
+use Rattle.token_notes.specs.Shown.{shown}
+use Rattle.token_notes.specs.Source.{both_lines}
 use Rattle.fault_notes.proofs.SourceLaws.{said-token}
 use Rattle.fault_notes.proofs.bad.with_source.Goals as goal
 

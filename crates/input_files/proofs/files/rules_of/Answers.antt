@@ -5,7 +5,7 @@ use Rattle.input_files.specs.declared.fault.Flaw.TheVariants as flaws
 use Rattle.input_files.specs.Inputs.{rules}
 use Rattle.input_files.specs.Seen.{ruleset_names, seen}
 use Rattle.input_files.proofs.Reading.{bad-cause}
-use Rattle.fault_notes.specs.declared.help.TextKind.TheVariants as kinds
+use Rattle.token_notes.specs.declared.help.TextKind.TheVariants as kinds
 use Rattle.input_files.proofs.Telling.{bad-note}
 use Rattle.fault_notes.proofs.ToldLaws.{may_tell}
 use Rattle.input_files.proofs.files.rules_of.Goals as goal

@@ -1,4 +1,4 @@
-use Rattle.fault_notes.specs.declared.help.TextKind.TheVariants as kinds
+use Rattle.token_notes.specs.declared.help.TextKind.TheVariants as kinds
 use Rattle.key_file.specs.Keys.{key_file as key_form}
 use Rattle.input_files.proofs.Telling.{first_alone}
 use Rattle.input_files.proofs.keys_told.keys_note.Goals as goal

@@ -1,5 +1,5 @@
 use Rattle.std.proofs.Common.{◌≡◌, subst, suc, ◌-◌, Option, arith}
-use Rattle.fault_notes.specs.declared.note.Note.{Note}
+use Rattle.token_notes.specs.declared.note.Note.{Note}
 use Rattle.fault_notes.specs.Hidden.{hidden_text}
 use Rattle.fault_notes.proofs.ToldLaws.{if-ok-as}
 use Rattle.token_forms.specs.declared.bad_token.BadToken.{BadToken}

@@ -1,9 +1,9 @@
 use Rattle.std.proofs.Common.{◌≡◌, ◌∙◌, refl, ap, Ok, Some}
-use Rattle.fault_notes.specs.declared.note.Note.{Note}
+use Rattle.token_notes.specs.declared.note.Note.{Note}
 use Rattle.fault_notes.specs.Told.{told_nothing}
 use Rattle.fault_notes.proofs.ToldLaws.{made-says, if-ok-as}
 use Rattle.set_script.specs.Script.{script as script_form}
-use Rattle.fault_notes.specs.declared.help.TextKind.TheVariants as kinds
+use Rattle.token_notes.specs.declared.help.TextKind.TheVariants as kinds
 use Rattle.input_files.specs.Noted.{IsNoteFrom, IsNotedFrom}
 use Rattle.input_files.proofs.script_told.tell_script.Goals as goal
 

@@ -1,8 +1,8 @@
 use Rattle.std.proofs.Common.{◌≡◌, ◌∙◌, refl, ap, Ok, Some}
-use Rattle.fault_notes.specs.declared.note.Note.{Note}
-use Rattle.fault_notes.specs.Shown.{Begins, place_text}
-use Rattle.fault_notes.specs.OtherKind.{is_other_kind}
-use Rattle.fault_notes.specs.Source.{IsSaidAt, source_text}
+use Rattle.token_notes.specs.declared.note.Note.{Note}
+use Rattle.token_notes.specs.Shown.{Begins, place_text}
+use Rattle.token_notes.specs.OtherKind.{is_other_kind}
+use Rattle.token_notes.specs.Source.{IsSaidAt, source_text}
 use Rattle.fault_notes.specs.Told.{told_nothing}
 use Rattle.fault_notes.proofs.ToldLaws.{made-says, if-ok-both}
 use Rattle.input_files.specs.Noted.{IsPlacedBy}

@@ -1,5 +1,5 @@
-use Rattle.fault_notes.specs.Shown.{Begins, name_text}
-use Rattle.fault_notes.specs.declared.note.Note.{Note}
+use Rattle.token_notes.specs.Shown.{Begins, name_text}
+use Rattle.token_notes.specs.declared.note.Note.{Note}
 use Rattle.fault_notes.proofs.ToldLaws.{made-says}
 use Rattle.input_files.proofs.told.tell_too_large.Goals as goal
 

@@ -3,7 +3,7 @@ use Rattle.std.specs.List.{list_any}
 use Rattle.input_files.specs.declared.work.Work.TheVariants as works
 use Rattle.ruleset_sets.specs.RulesetText.{leaves_out}
 use Rattle.command_words.specs.WordForms.{plain}
-use Rattle.fault_notes.specs.Shown.{Begins, name_text}
+use Rattle.token_notes.specs.Shown.{Begins, name_text}
 use Rattle.input_files.specs.Seen.{ruleset_names, seen}
 use Rattle.top_call.specs.declared.fault.Fault.TheVariants as faults
 use Rattle.top_call.specs.Forms.{counts_left_out}

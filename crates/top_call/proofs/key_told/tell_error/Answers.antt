@@ -1,8 +1,8 @@
 use Rattle.std.specs.Prelude.{codes}
 use Rattle.std.proofs.Common.{refl}
-use Rattle.fault_notes.specs.Shown.{BeginsAtPlace}
+use Rattle.token_notes.specs.Shown.{BeginsAtPlace}
 use Rattle.fault_notes.specs.Told.{told_nothing}
-use Rattle.fault_notes.specs.declared.note.Note.{Note}
+use Rattle.token_notes.specs.declared.note.Note.{Note}
 use Rattle.fault_notes.proofs.ToldLaws.{made-says}
 use Rattle.top_call.proofs.key_told.tell_error.Goals as goal
 

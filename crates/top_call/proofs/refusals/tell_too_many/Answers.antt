@@ -1,5 +1,5 @@
 use Rattle.std.proofs.Common.{subst, sym}
-use Rattle.fault_notes.specs.Shown.{Begins, name_text}
+use Rattle.token_notes.specs.Shown.{Begins, name_text}
 use Rattle.top_call.proofs.refusals.tell_too_many.Goals as goal
 
 pub returns-clause-told : goal.returns-clause-told

@@ -1,6 +1,6 @@
 use Rattle.std.specs.Prelude.{codes}
-use Rattle.fault_notes.specs.Shown.{Begins, name_text}
-use Rattle.fault_notes.specs.declared.note.Note.{Note}
+use Rattle.token_notes.specs.Shown.{Begins, name_text}
+use Rattle.token_notes.specs.declared.note.Note.{Note}
 use Rattle.fault_notes.proofs.ToldLaws.{made-says}
 use Rattle.top_call.proofs.words_told.tell_words.Goals as goal
 
