@@ -21,11 +21,12 @@ BEGUN = {tuple(e.encode().split()[:n]) for e in EXPRESSIONS for n in range(1, 5)
 LEFT_OUT = {
     b"auto-merge": "is left out: 'auto-merge' isn't read here",
     b"*": "is left out: it has the catch-all element '*'",
-    b"quota": "is left out: it has a quota, a limit or a count of connections",
-    b"limit": "is left out: it has a quota, a limit or a count of connections",
-    b"ct": "is left out: it has a quota, a limit or a count of connections",
+    b"quota": "is left out: it has 'quota', on which verdicts depend",
+    b"limit": "is left out: it has 'limit', on which verdicts depend",
+    b"ct": "is left out: it has 'ct', on which verdicts depend",
 }
-UNKNOWN, UNCLOSED, SKIPPED = "is left out: it has a type that isn't known here", "is skipped: its braces don't close", "is skipped: it isn't a set"
+UNKNOWN = "is left out: it has {} '{}', which isn't known here"
+UNCLOSED, SKIPPED = "is skipped: its braces don't close", "is skipped: it isn't a set"
 HOLDS = "is skipped: another item is in its braces"
 DROPPED = "is dropped: no verdict depends on it"
 IDLE, TALLIES, COUNTS = {b"constant", b"dynamic"}, {b"counter", b"last"}, {b"packets", b"bytes", b"used"}
@@ -114,13 +115,13 @@ def parts_of(body):
         following = body[n + 1] if n + 1 < len(body) else None
         fresh = t.kind == "break" or t.says in (b";", b"{", b"}") or t.says in (b"type", b"typeof", b"flags") or t.says in TALLIES
         if spot == "types" and t.kind == "word" and t.says not in KINDS and t.text != b".":
-            return UNKNOWN
+            return UNKNOWN.format("the type", shown(t.text))
         if spot == "expressions":
             is_dot = t.kind == "word" and t.text == b"."
             expression = () if is_dot else (*expression, t.text if t.kind == "word" else b"")
             ends = t.kind == "break" or t.says in (b";", b"{", b"}") or t.stays()
             if not is_dot and not ends and expression not in BEGUN:
-                return UNKNOWN
+                return UNKNOWN.format("an expression with", shown(t.text))
         elif spot == "flags":
             whole = t.says in IDLE and following is not None and (following.kind == "break" or following.says in (b";", b",", b"}"))
             comma = False

@@ -103,7 +103,7 @@ const RULESETS: [Kept; 6] = [
                \t\t                         \n\
                \t \n\
                }\n",
-        notes: Some("r.nft:6:2: 'set b' is left out: it has a type that isn't known here\n"),
+        notes: Some("r.nft:6:2: 'set b' is left out: it has an expression with 'iifname', which isn't known here\n"),
         status: 1,
     },
     // a brace that nothing closes

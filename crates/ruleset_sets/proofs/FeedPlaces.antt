@@ -138,17 +138,17 @@ gone_for reasons.Unclosed r h = gone r (first (may_go r) (not (opens r)) h) wher
   first false b h = h
 gone_for _ r h = gone r h
 
-among_expressions : (grown : Option Expression) → is_dropped (expression_fate roles.LineFeed grown) ≡ true → is_line_feed roles.LineFeed ≡ false
-among_expressions None h = sym h
-among_expressions (Some part) h = sym h
-
 abbrev placed : Role → Option ExpressionWord → ℕ → ℕ → ℕ → RoleToken
 placed r w line from size = record { role = r; word = w; line = line; from = from; size = size }
+
+among_expressions : (w : Option ExpressionWord) (line from size : ℕ) (grown : Option Expression) → is_dropped (expression_fate (placed roles.LineFeed w line from size) grown) ≡ true → is_line_feed roles.LineFeed ≡ false
+among_expressions w line from size None h = sym h
+among_expressions w line from size (Some part) h = sym h
 
 dropped : (r : Role) (w : Option ExpressionWord) (line from size : ℕ) (spot : Spot) (ps : List RoleToken) → is_dropped (fate spot (placed r w line from size) ps) ≡ true → is_line_feed r ≡ false
 dropped roles.LineFeed w line from size spots.Plain ps h = sym h
 dropped roles.LineFeed w line from size spots.Types ps h = sym h
-dropped roles.LineFeed w line from size (spots.Expressions part) ps h = among_expressions (grown_by part w) h
+dropped roles.LineFeed w line from size (spots.Expressions part) ps h = among_expressions w line from size (grown_by part w) h
 dropped roles.LineFeed w line from size spots.Flags ps h = sym h
 dropped roles.LineFeed w line from size spots.FlagDropped ps h = sym h
 dropped roles.LineFeed w line from size spots.FlagKept ps h = sym h

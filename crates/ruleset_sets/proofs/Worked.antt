@@ -1,7 +1,7 @@
 -- Worked examples of the definitions. They compute, so the proof check refuses a wrong byte.
 use Rattle.std.specs.Prelude.{◌≡◌, refl, ℕ, ◌+◌, List, [], ◌∷◌, ◌++◌, map, codes}
 use Rattle.ruleset_sets.specs.declared.sieve.SkipReason.{SkipReason}
-use Rattle.ruleset_sets.specs.declared.sieve.SkipReason.TheVariants.{NoSet, UnknownType, AutoMerge, CatchAll, Unclosed, HoldsItem, DroppedPart}
+use Rattle.ruleset_sets.specs.declared.sieve.SkipReason.TheVariants as skip_reasons
 use Rattle.ruleset_sets.specs.declared.role_token.RoleToken.{RoleToken}
 use Rattle.ruleset_sets.specs.Kept.{all_taken, notes, kept_byte}
 
@@ -12,9 +12,32 @@ kept_from taken k (b ∷ bytes) = kept_byte taken k b ∷ kept_from taken (k + 1
 abbrev kept_of : List ℕ → List ℕ
 kept_of text = kept_from (all_taken text) 0 text
 
+-- a reason, with the place of the token that is the reason
+data Why : Type 0 where
+  no_set : Why
+  unknown_type : ℕ → Why
+  unknown_expression : ℕ → Why
+  auto_merge : ℕ → Why
+  catch_all : ℕ → Why
+  stateful : ℕ → Why
+  unclosed : Why
+  holds_item : Why
+  dropped_part : Why
+
+abbrev why_of : SkipReason → Why
+why_of skip_reasons.NoSet = no_set
+why_of (skip_reasons.UnknownType p) = unknown_type p.from
+why_of (skip_reasons.UnknownExpression p) = unknown_expression p.from
+why_of (skip_reasons.AutoMerge p) = auto_merge p.from
+why_of (skip_reasons.CatchAll p) = catch_all p.from
+why_of (skip_reasons.Stateful p) = stateful p.from
+why_of skip_reasons.Unclosed = unclosed
+why_of skip_reasons.HoldsItem = holds_item
+why_of skip_reasons.DroppedPart = dropped_part
+
 -- the reason, the line and the place of each note
-abbrev noted : List ℕ → List (SkipReason × ℕ × ℕ)
-noted text = map (λ s. (s.why, s.at.line, s.at.from)) (notes text)
+abbrev noted : List ℕ → List (Why × ℕ × ℕ)
+noted text = map (λ s. (why_of s.why, s.at.line, s.at.from)) (notes text)
 
 -- A brace in a string ends no chain, and a counter of a kept set is dropped.
 abbrev a_brace_in_a_string : List ℕ
@@ -23,7 +46,7 @@ a_brace_in_a_string = codes "table ip t{chain c{log " ++ 34 ∷ codes "}" ++ 34 
 a_brace_in_a_string-kept : kept_of a_brace_in_a_string ≡ codes "table ip t{                " ++ 10 ∷ codes "set s{type mark;       ;}}"
 a_brace_in_a_string-kept = refl
 
-a_brace_in_a_string-noted : noted a_brace_in_a_string ≡ (NoSet, 1, 11) ∷ (DroppedPart, 2, 44) ∷ []
+a_brace_in_a_string-noted : noted a_brace_in_a_string ≡ (no_set, 1, 11) ∷ (dropped_part, 2, 44) ∷ []
 a_brace_in_a_string-noted = refl
 
 -- A brace in a comment ends no chain.
@@ -33,7 +56,7 @@ a_brace_in_a_comment = codes "table ip t{chain c{#}" ++ 10 ∷ codes "}" ++ 10 �
 a_brace_in_a_comment-kept : kept_of a_brace_in_a_comment ≡ codes "table ip t{        #}" ++ 10 ∷ codes " " ++ 10 ∷ codes "}"
 a_brace_in_a_comment-kept = refl
 
-a_brace_in_a_comment-noted : noted a_brace_in_a_comment ≡ (NoSet, 1, 11) ∷ []
+a_brace_in_a_comment-noted : noted a_brace_in_a_comment ≡ (no_set, 1, 11) ∷ []
 a_brace_in_a_comment-noted = refl
 
 -- A set with auto-merge is left out as a whole, and the next one is kept.
@@ -43,7 +66,7 @@ a_set_left_out = codes "table ip t{set a{type mark;auto-merge;}" ++ 10 ∷ codes
 a_set_left_out-kept : kept_of a_set_left_out ≡ codes "table ip t{                            " ++ 10 ∷ codes "set b{type mark;}}"
 a_set_left_out-kept = refl
 
-a_set_left_out-noted : noted a_set_left_out ≡ (AutoMerge, 1, 11) ∷ []
+a_set_left_out-noted : noted a_set_left_out ≡ (auto_merge 27, 1, 11) ∷ []
 a_set_left_out-noted = refl
 
 -- A rule is skipped to its end, with sets in it. An element keeps its comment and loses its counter.
@@ -53,7 +76,7 @@ a_rule = codes "add rule ip t c tcp dport {80,{443}} accept" ++ 10 ∷ codes "ad
 a_rule-kept : kept_of a_rule ≡ codes "                                           " ++ 10 ∷ codes "add element ip t b{1                           comment " ++ 34 ∷ codes "x" ++ 34 ∷ codes "}"
 a_rule-kept = refl
 
-a_rule-noted : noted a_rule ≡ (NoSet, 1, 0) ∷ (DroppedPart, 2, 65) ∷ []
+a_rule-noted : noted a_rule ≡ (no_set, 1, 0) ∷ (dropped_part, 2, 65) ∷ []
 a_rule-noted = refl
 
 -- A chain whose brace is missing holds the set after it. The set's name stays, and a script refuses it.
@@ -63,7 +86,7 @@ a_missing_brace = codes "table ip t{chain c{" ++ 10 ∷ codes "set s{type mark;}
 a_missing_brace-kept : kept_of a_missing_brace ≡ codes "table ip t{        " ++ 10 ∷ codes "    s{            "
 a_missing_brace-kept = refl
 
-a_missing_brace-noted : noted a_missing_brace ≡ (HoldsItem, 1, 11) ∷ []
+a_missing_brace-noted : noted a_missing_brace ≡ (holds_item, 1, 11) ∷ []
 a_missing_brace-noted = refl
 
 -- The same if one more brace at the end balances the text.
@@ -101,7 +124,7 @@ rules_on_sets = codes "table ip t{chain c{set update ip saddr @s" ++ 10 ∷ code
 rules_on_sets-kept : kept_of rules_on_sets ≡ codes "table ip t{                              " ++ 10 ∷ codes "                                            " ++ 10 ∷ codes " }"
 rules_on_sets-kept = refl
 
-rules_on_sets-noted : noted rules_on_sets ≡ (NoSet, 1, 11) ∷ []
+rules_on_sets-noted : noted rules_on_sets ≡ (no_set, 1, 11) ∷ []
 rules_on_sets-noted = refl
 
 -- A dropped flag takes one comma with it.
@@ -111,7 +134,7 @@ dropped_flags = codes "add set ip t s{type mark;flags constant,interval,dynamic;
 dropped_flags-kept : kept_of dropped_flags ≡ codes "add set ip t s{type mark;flags          interval        ;}"
 dropped_flags-kept = refl
 
-dropped_flags-noted : noted dropped_flags ≡ (DroppedPart, 1, 31) ∷ (DroppedPart, 1, 49) ∷ []
+dropped_flags-noted : noted dropped_flags ≡ (dropped_part, 1, 31) ∷ (dropped_part, 1, 49) ∷ []
 dropped_flags-noted = refl
 
 -- A type that is not known, a catch-all element, and a map.
@@ -121,7 +144,7 @@ reasons = codes "table ip t{set a{type ifname;}" ++ 10 ∷ codes "set b{type mar
 reasons-kept : kept_of reasons ≡ codes "table ip t{                   " ++ 10 ∷ codes "                             " ++ 10 ∷ codes "                      }"
 reasons-kept = refl
 
-reasons-noted : noted reasons ≡ (UnknownType, 1, 11) ∷ (CatchAll, 2, 31) ∷ (NoSet, 3, 61) ∷ []
+reasons-noted : noted reasons ≡ (unknown_type 22, 1, 11) ∷ (catch_all 57, 2, 31) ∷ (no_set, 3, 61) ∷ []
 reasons-noted = refl
 
 -- A set by an expression whose type is known is kept, and `ct` counts no connections in it. An expression of another type
@@ -132,8 +155,26 @@ expressions = codes "table ip t{set a{typeof ct original ip saddr . th dport;}" 
 expressions-kept : kept_of expressions ≡ codes "table ip t{set a{typeof ct original ip saddr . th dport;}" ++ 10 ∷ codes "                                 }"
 expressions-kept = refl
 
-expressions-noted : noted expressions ≡ (UnknownType, 2, 58) ∷ []
+expressions-noted : noted expressions ≡ (unknown_expression 82, 2, 58) ∷ []
 expressions-noted = refl
+
+-- The first of several reasons counts. Of an expression that isn't known, the reason is the first word with which no known one
+-- goes on.
+abbrev several_reasons : List ℕ
+several_reasons = codes "table ip t{set a{type mark;elements={*};auto-merge;}" ++ 10 ∷ codes "set b{typeof ct mark . tcp flags;quota over 1 mbytes;}" ++ 10 ∷ codes "set c{type ifname . inet_proto;ct count over 1;}}"
+
+several_reasons-kept : kept_of several_reasons ≡ codes "table ip t{                                         " ++ 10 ∷ codes "                                                      " ++ 10 ∷ codes "                                                }"
+several_reasons-kept = refl
+
+several_reasons-noted : noted several_reasons ≡ (catch_all 37, 1, 11) ∷ (unknown_expression 80, 2, 53) ∷ (unknown_type 119, 3, 108) ∷ []
+several_reasons-noted = refl
+
+-- A state that decides is a reason.
+abbrev a_limit : List ℕ
+a_limit = codes "add set ip t s{type mark;limit rate 1/second;}"
+
+a_limit-noted : noted a_limit ≡ (stateful 25, 1, 0) ∷ []
+a_limit-noted = refl
 
 -- A quote that begins no string stays, and a script with it is refused.
 abbrev an_open_quote : List ℕ
@@ -142,7 +183,7 @@ an_open_quote = codes "chain c {" ++ 34 ∷ codes "x" ++ 10 ∷ codes "}"
 an_open_quote-kept : kept_of an_open_quote ≡ codes "         " ++ 34 ∷ codes " " ++ 10 ∷ codes " "
 an_open_quote-kept = refl
 
-an_open_quote-noted : noted an_open_quote ≡ (NoSet, 1, 0) ∷ []
+an_open_quote-noted : noted an_open_quote ≡ (no_set, 1, 0) ∷ []
 an_open_quote-noted = refl
 
 -- A statement whose braces don't close keeps those that open.
@@ -152,5 +193,5 @@ an_open_brace = codes "add chain ip t c{" ++ 10 ∷ codes "add set ip t s{type m
 an_open_brace-kept : kept_of an_open_brace ≡ codes "                {" ++ 10 ∷ codes "              {           "
 an_open_brace-kept = refl
 
-an_open_brace-noted : noted an_open_brace ≡ (Unclosed, 1, 0) ∷ []
+an_open_brace-noted : noted an_open_brace ≡ (unclosed, 1, 0) ∷ []
 an_open_brace-noted = refl

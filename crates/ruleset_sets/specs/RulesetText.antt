@@ -1,5 +1,5 @@
 -- The scripts that rulesets mean.
-use Rattle.std.specs.Prelude.{ℕ, List, Bool, true, false, Option}
+use Rattle.std.specs.Prelude.{ℕ, List, Bool, true, false, Option, Some, None}
 use Rattle.set_model.specs.declared.script.Script.{Script}
 use Rattle.token_forms.specs.declared.bad_token.BadToken.{BadToken}
 use Rattle.token_forms.specs.declared.token.Reason.{Reason}
@@ -8,6 +8,7 @@ use Rattle.token_forms.specs.Faults.{IsFault}
 use Rattle.token_forms.specs.BadTokens.{IsBadTokenOf}
 use Rattle.set_script.specs.Script.{script as script_form}
 use Rattle.set_script.specs.ScriptText.{IsScriptText}
+use Rattle.ruleset_sets.specs.declared.role_token.RoleToken.{RoleToken}
 use Rattle.ruleset_sets.specs.declared.sieve.SkipReason.{SkipReason}
 use Rattle.ruleset_sets.specs.declared.sieve.SkipReason.TheVariants as reasons
 use Rattle.ruleset_sets.specs.Kept.{IsKept, all_taken}
@@ -35,3 +36,12 @@ abbrev pub leaves_out : SkipReason → Bool
 leaves_out reasons.NoSet = false
 leaves_out reasons.DroppedPart = false
 leaves_out _ = true
+
+-- the token of an item that is the reason to leave it out, if one is
+abbrev pub reason_token : SkipReason → Option RoleToken
+reason_token (reasons.UnknownType p) = Some p
+reason_token (reasons.UnknownExpression p) = Some p
+reason_token (reasons.AutoMerge p) = Some p
+reason_token (reasons.CatchAll p) = Some p
+reason_token (reasons.Stateful p) = Some p
+reason_token _ = None

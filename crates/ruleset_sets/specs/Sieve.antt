@@ -23,12 +23,12 @@ is_idle_flag r = is_constant r || is_dynamic r
 abbrev pub is_tally : Role → Bool
 is_tally r = is_counter r || is_last r
 
--- a word for which a set is left out, wherever it is in the set outside expressions
-abbrev pub why_left_out : Role → Option SkipReason
-why_left_out roles.AutoMerge = Some reasons.AutoMerge
-why_left_out roles.Star = Some reasons.CatchAll
-why_left_out roles.Stateful = Some reasons.Stateful
-why_left_out _ = None
+-- a token of this role for which a set is left out, wherever it is in the set outside expressions
+abbrev pub why_left_out : Role → RoleToken → Option SkipReason
+why_left_out roles.AutoMerge p = Some (reasons.AutoMerge p)
+why_left_out roles.Star p = Some (reasons.CatchAll p)
+why_left_out roles.Stateful p = Some (reasons.Stateful p)
+why_left_out _ p = None
 
 abbrev pub begins_with : (Role → Bool) → List RoleToken → Bool
 begins_with test [] = false
@@ -63,16 +63,16 @@ abbrev pub ends_expression : Role → Bool
 ends_expression r = is_dot r || is_separator r || opens r || closes r || is_unread r || is_end r
 
 -- A token among expressions. The second argument is what has been read of an expression after it.
-abbrev pub expression_fate : Role → Option Expression → Fate
-expression_fate r (Some part) = fates.Keep
-expression_fate r None = if ends_expression r then fates.Keep else fates.Leave reasons.UnknownType
+abbrev pub expression_fate : RoleToken → Option Expression → Fate
+expression_fate p (Some part) = fates.Keep
+expression_fate p None = if ends_expression p.role then fates.Keep else fates.Leave (reasons.UnknownExpression p)
 
 -- A token at a spot, with the tokens after it. A dropped flag takes one comma with it: the comma after
 -- it if no flag that stays comes before it, else the comma before it.
 abbrev pub fate_at : Spot → RoleToken → List RoleToken → Fate
 fate_at spots.Plain p ps = plain_fate p.role ps
-fate_at spots.Types p ps = if is_type_part p.role || is_no_word p.role then fates.Keep else fates.Leave reasons.UnknownType
-fate_at (spots.Expressions part) p ps = expression_fate p.role (grown_by part p.word)
+fate_at spots.Types p ps = if is_type_part p.role || is_no_word p.role then fates.Keep else fates.Leave (reasons.UnknownType p)
+fate_at (spots.Expressions part) p ps = expression_fate p (grown_by part p.word)
 fate_at spots.Flags p ps = drop_if (is_whole_idle p.role ps)
 fate_at spots.FlagDropped p ps = drop_if (is_whole_idle p.role ps || (is_comma p.role && begins_with (λ q. is_plain_word q || is_idle_flag q) ps))
 fate_at spots.FlagKept p ps = drop_if (is_whole_idle p.role ps || (is_comma p.role && begins_with is_idle_flag ps))
@@ -80,16 +80,16 @@ fate_at spots.Tally p ps = if is_count p.role then fates.Drop else plain_fate p.
 fate_at spots.TallyValue p ps = if is_plain_word p.role then fates.Drop else plain_fate p.role ps
 
 -- The same word of a set may have another meaning in an expression: `ct`.
-abbrev pub why_at : Spot → Role → Option SkipReason
-why_at (spots.Expressions part) r = None
-why_at _ r = why_left_out r
+abbrev pub why_at : Spot → RoleToken → Option SkipReason
+why_at (spots.Expressions part) p = None
+why_at _ p = why_left_out p.role p
 
 abbrev pub fate_by : Option SkipReason → Fate → Fate
 fate_by None fate = fate
 fate_by (Some why) fate = fates.Leave why
 
 abbrev pub fate : Spot → RoleToken → List RoleToken → Fate
-fate spot p ps = fate_by (why_at spot p.role) (fate_at spot p ps)
+fate spot p ps = fate_by (why_at spot p) (fate_at spot p ps)
 
 -- the spot after a token among expressions
 abbrev pub expression_spot : Option Expression → Spot
@@ -126,7 +126,7 @@ reason_or (fates.Leave why) later = Some why
 reason_or fates.Keep later = later
 reason_or fates.Drop later = later
 
--- the first reason for which these tokens can't be kept
+-- The first reason for which these tokens can't be kept. It has the first token that can't.
 abbrev pub first_reason : Spot → List RoleToken → Option SkipReason
 first_reason spot [] = None
 first_reason spot (p ∷ ps) = reason_or (fate spot p ps) (first_reason (spot_behind spot p) ps)

@@ -6,8 +6,9 @@ ghost use Rattle.token_forms.specs.declared.token.Reason.{Reason as Refused};
 ghost use Rattle.token_forms.specs.declared.error.ReadError.TheVariants.{Bad};
 ghost use Rattle.token_forms.specs.Gives.{IsReadAs};
 ghost use Rattle.ruleset_sets.specs.Kept.{notes};
-ghost use Rattle.ruleset_sets.specs.RulesetText.{IsRulesetText, IsBadRuleset, IsBadTokenOfRuleset, leaves_out};
+ghost use Rattle.ruleset_sets.specs.RulesetText.{IsRulesetText, IsBadRuleset, IsBadTokenOfRuleset, leaves_out, reason_token};
 
+use crate::role_token::RoleToken;
 use crate::sieve::SkipReason;
 use crate::sieved::sieve_ruleset;
 use crate::skipped::{Skipped, Skips};
@@ -30,6 +31,23 @@ impl SkipReason {
         ensures { result ≡ leaves_out self }
     {
         !matches!(self, SkipReason::NoSet | SkipReason::DroppedPart)
+    }
+
+    /// The token of the item that is the reason to leave it out, if one is.
+    pub fn token(self) -> Option<RoleToken>
+        ensures { result ≡ reason_token self }
+    {
+        match self {
+            SkipReason::UnknownType(p)
+            | SkipReason::UnknownExpression(p)
+            | SkipReason::AutoMerge(p)
+            | SkipReason::CatchAll(p)
+            | SkipReason::Stateful(p) => Some(p),
+            SkipReason::NoSet
+            | SkipReason::Unclosed
+            | SkipReason::HoldsItem
+            | SkipReason::DroppedPart => None,
+        }
     }
 }
 

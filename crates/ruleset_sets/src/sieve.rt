@@ -11,19 +11,22 @@ use set_model::Memory;
 use set_script::Expression;
 use std::alloc::Global;
 
-/// Why an item of a ruleset, or a part of an item, isn't kept.
+/// Why an item of a ruleset, or a part of an item, isn't kept. If a token of the item is the reason, this has the first such
+/// token.
 #[derive(Clone, Copy, Debug)]
 pub enum SkipReason {
     /// The item is no set and no statement on sets.
     NoSet,
-    /// The set has a type that isn't known, by its name or by an expression.
-    UnknownType,
+    /// The set has a type that isn't known: this word after `type`.
+    UnknownType(RoleToken),
+    /// The set has an expression that isn't known. No known expression goes on with this token after `typeof`.
+    UnknownExpression(RoleToken),
     /// The set has the flag `auto-merge`.
-    AutoMerge,
+    AutoMerge(RoleToken),
     /// The set has the catch-all element `*`.
-    CatchAll,
-    /// The set has elements with a quota, a limit or a count of connections.
-    Stateful,
+    CatchAll(RoleToken),
+    /// The set has elements with a quota, a limit or a count of connections: `quota`, `limit` or `ct`.
+    Stateful(RoleToken),
     /// The braces of the item don't close. They stay, so a script refuses the first of them.
     Unclosed,
     /// Another item is in the item's braces, such as a set after a chain that isn't closed. The second word of
@@ -98,17 +101,17 @@ impl Role {
             || self.is_unread()
             || self.is_end()
     }
+}
 
-    /// Why an item with this token outside expressions is left out, if it is.
-    fn why(self) -> Option<SkipReason>
-        ensures { result ≡ sieve.why_left_out self }
-    {
-        match self {
-            Role::AutoMerge => Some(SkipReason::AutoMerge),
-            Role::Star => Some(SkipReason::CatchAll),
-            Role::Stateful => Some(SkipReason::Stateful),
-            _ => None,
-        }
+/// Why an item with this token outside expressions is left out, if it is.
+fn why(p: &RoleToken) -> Option<SkipReason>
+    ensures { result ≡ sieve.why_left_out p.now.role p.now }
+{
+    match p.role {
+        Role::AutoMerge => Some(SkipReason::AutoMerge(*p)),
+        Role::Star => Some(SkipReason::CatchAll(*p)),
+        Role::Stateful => Some(SkipReason::Stateful(*p)),
+        _ => None,
     }
 }
 
@@ -171,13 +174,13 @@ fn fate_of_word(role: Role, rest: &[RoleToken]) -> Fate
 }
 
 /// What becomes of a token among expressions, by what has been read of an expression after it.
-fn fate_in_expression(role: Role, grown: Option<Expression>) -> Fate
-    ensures { result ≡ sieve.expression_fate role grown }
+fn fate_in_expression(p: &RoleToken, grown: Option<Expression>) -> Fate
+    ensures { result ≡ sieve.expression_fate p.now grown }
 {
     match grown {
         Some(_) => Fate::Keep,
-        None if role.ends_expression() => Fate::Keep,
-        None => Fate::Leave(SkipReason::UnknownType),
+        None if p.role.ends_expression() => Fate::Keep,
+        None => Fate::Leave(SkipReason::UnknownExpression(*p)),
     }
 }
 
@@ -189,8 +192,8 @@ fn fate_inside(spot: Spot, p: &RoleToken, rest: &[RoleToken]) -> Fate
     match spot {
         Spot::Plain => fate_of_word(role, rest),
         Spot::Types if role.is_type_part() || role.is_no_word() => Fate::Keep,
-        Spot::Types => Fate::Leave(SkipReason::UnknownType),
-        Spot::Expressions(part) => fate_in_expression(role, part.grown(p.word)),
+        Spot::Types => Fate::Leave(SkipReason::UnknownType(*p)),
+        Spot::Expressions(part) => fate_in_expression(p, part.grown(p.word)),
         Spot::Flags => dropped_if(is_a_whole_idle(role, rest)),
         Spot::FlagDropped => {
             dropped_if(is_a_whole_idle(role, rest) || (role.is_comma() && at_flag(rest)))
@@ -205,12 +208,12 @@ fn fate_inside(spot: Spot, p: &RoleToken, rest: &[RoleToken]) -> Fate
 }
 
 /// Why an item with this token at this spot is left out whatever comes next, if it is.
-fn why_here(spot: Spot, role: Role) -> Option<SkipReason>
-    ensures { result ≡ sieve.why_at spot role }
+fn why_here(spot: Spot, p: &RoleToken) -> Option<SkipReason>
+    ensures { result ≡ sieve.why_at spot p.now }
 {
     match spot {
         Spot::Expressions(_) => None,
-        _ => role.why(),
+        _ => why(p),
     }
 }
 
@@ -218,7 +221,7 @@ fn why_here(spot: Spot, role: Role) -> Option<SkipReason>
 fn fate_of(spot: Spot, p: &RoleToken, rest: &[RoleToken]) -> Fate
     ensures { result ≡ sieve.fate spot p.now rest.now }
 {
-    match why_here(spot, p.role) {
+    match why_here(spot, p) {
         Some(why) => Fate::Leave(why),
         None => fate_inside(spot, p, rest),
     }
@@ -283,7 +286,7 @@ fn spot_after(spot: Spot, p: &RoleToken) -> Spot
     }
 }
 
-/// The first reason for which these tokens can't be kept.
+/// The first reason for which these tokens can't be kept, with its token.
 fn reason_among(tokens: &[RoleToken]) -> Option<SkipReason>
     ensures { result ≡ sieve.first_reason spots.Plain tokens.now }
 {

@@ -7,20 +7,21 @@ use Rattle.ruleset_sets.specs.declared.sieve.SkipReason.TheVariants as reasons
 use Rattle.ruleset_sets.specs.declared.skipped.Skipped.{Skipped}
 use Rattle.token_notes.specs.Shown.{shown}
 
--- what becomes of a thing that isn't kept, and why
-abbrev pub reason_words : SkipReason → List ℕ
-reason_words reasons.NoSet = codes "is skipped: it isn't a set"
-reason_words reasons.UnknownType = codes "is left out: it has a type that isn't known here"
-reason_words reasons.AutoMerge = codes "is left out: 'auto-merge' isn't read here"
-reason_words reasons.CatchAll = codes "is left out: it has the catch-all element '*'"
-reason_words reasons.Stateful = codes "is left out: it has a quota, a limit or a count of connections"
-reason_words reasons.Unclosed = codes "is skipped: its braces don't close"
-reason_words reasons.HoldsItem = codes "is skipped: another item is in its braces"
-reason_words reasons.DroppedPart = codes "is dropped: no verdict depends on it"
-
 -- the bytes of a token
 abbrev pub token_bytes : List ℕ → RoleToken → List ℕ
 token_bytes text p = take p.size (drop p.from text)
+
+-- what becomes of a thing that isn't kept, and why, with the token that is the reason
+abbrev pub reason_words : List ℕ → SkipReason → List ℕ
+reason_words text reasons.NoSet = codes "is skipped: it isn't a set"
+reason_words text (reasons.UnknownType p) = codes "is left out: it has the type '" ++ token_bytes text p ++ codes "', which isn't known here"
+reason_words text (reasons.UnknownExpression p) = codes "is left out: it has an expression with '" ++ token_bytes text p ++ codes "', which isn't known here"
+reason_words text (reasons.AutoMerge p) = codes "is left out: '" ++ token_bytes text p ++ codes "' isn't read here"
+reason_words text (reasons.CatchAll p) = codes "is left out: it has the catch-all element '" ++ token_bytes text p ++ codes "'"
+reason_words text (reasons.Stateful p) = codes "is left out: it has '" ++ token_bytes text p ++ codes "', on which verdicts depend"
+reason_words text reasons.Unclosed = codes "is skipped: its braces don't close"
+reason_words text reasons.HoldsItem = codes "is skipped: another item is in its braces"
+reason_words text reasons.DroppedPart = codes "is dropped: no verdict depends on it"
 
 -- the name of an item, after a blank
 abbrev pub name_bytes : List ℕ → Option RoleToken → List ℕ
@@ -33,7 +34,7 @@ place_bytes name text p = name ++ codes ":" ++ decimal p.line ++ codes ":" ++ de
 
 -- What a line says of an item or a part: its place, its first token and its name in quotes, and why it isn't kept.
 abbrev pub said_of : List ℕ → List ℕ → Skipped → List ℕ
-said_of name text s = place_bytes name text s.at ++ codes ": '" ++ token_bytes text s.at ++ name_bytes text s.name ++ codes "' " ++ reason_words s.why
+said_of name text s = place_bytes name text s.at ++ codes ": '" ++ token_bytes text s.at ++ name_bytes text s.name ++ codes "' " ++ reason_words text s.why
 
 -- the line, with its bytes as they are shown
 abbrev pub skip_line : List ℕ → List ℕ → Skipped → List ℕ

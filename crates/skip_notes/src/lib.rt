@@ -7,9 +7,9 @@
 //!     rules.nft:9:3: 'counter' is dropped: no verdict depends on it
 //!     rules.nft:12:2: 'chain input' is skipped: it isn't a set
 //!
-//! A line has the place of an item or a part, the item's first two tokens, and the reason. It is proved that
-//! the note is exactly this text ([`skips_note`]). A byte that isn't printable ASCII appears as its number, as
-//! `\x1b` does, so no ruleset can move a terminal.
+//! A line has the place of an item or a part, the item's first two tokens, and the reason, with the token that is
+//! the reason if one is. It is proved that the note is exactly this text ([`skips_note`]). A byte that isn't
+//! printable ASCII appears as its number, as `\x1b` does, so no ruleset can move a terminal.
 //!
 //! **Definitions:** `specs/Skips.antt`. **Theory:** docs/formats.md, "The standard error".
 #![tactic(auto)]

@@ -3,30 +3,12 @@ ghost use Rattle.std.specs.Prelude.{◌≡◌, ◌≤◌, ◌++◌, OnOk, length
 ghost use Rattle.std.specs.List.{prefix_len};
 ghost use Rattle.token_forms.specs.Bytes.{is_line_feed};
 ghost use Rattle.token_forms.specs.BadTokens.{column_at};
-ghost use Rattle.skip_notes.specs.Skips.{reason_words as words_on, token_bytes, name_bytes, place_bytes, said_of};
+ghost use Rattle.skip_notes.specs.Skips.{reason_words, token_bytes, name_bytes, place_bytes, said_of};
 
 use ruleset_sets::{RoleToken, SkipReason, Skipped};
 use set_model::Memory;
 use text_pieces::Piece::{Number, Word};
 use text_pieces::{append, append_pieces};
-
-/// What becomes of a thing that isn't kept, and why.
-fn reason_words(why: SkipReason) -> &'static [u8]
-    ensures { result.now ≡ words_on why }
-{
-    match why {
-        SkipReason::NoSet => b"is skipped: it isn't a set",
-        SkipReason::UnknownType => b"is left out: it has a type that isn't known here",
-        SkipReason::AutoMerge => b"is left out: 'auto-merge' isn't read here",
-        SkipReason::CatchAll => b"is left out: it has the catch-all element '*'",
-        SkipReason::Stateful => {
-            b"is left out: it has a quota, a limit or a count of connections"
-        }
-        SkipReason::Unclosed => b"is skipped: its braces don't close",
-        SkipReason::HoldsItem => b"is skipped: another item is in its braces",
-        SkipReason::DroppedPart => b"is dropped: no verdict depends on it",
-    }
-}
 
 /// The bytes of a text before a place.
 fn bytes_before(text: &[u8], at: u64) -> &[u8]
@@ -87,6 +69,65 @@ fn append_name(text: &[u8], name: Option<RoleToken>, out: &mut Vec<u8>) -> Resul
     }
 }
 
+/// Appends a token between these words.
+fn append_token(
+    text: &[u8],
+    front: &[u8],
+    token: &RoleToken,
+    behind: &[u8],
+    out: &mut Vec<u8>,
+) -> Result<(), Memory>
+    ensures { OnOk result (out.new.items ≡ out.old.items ++ (front.now ++ token_bytes text.now token.now ++ behind.now)) }
+{
+    append_pieces(
+        &[Word(front), Word(bytes_of(text, token)), Word(behind)],
+        out,
+    )
+}
+
+/// Appends what becomes of a thing that isn't kept, and why. The token that is the reason is in quotes.
+fn append_reason(text: &[u8], why: SkipReason, out: &mut Vec<u8>) -> Result<(), Memory>
+    ensures { OnOk result (out.new.items ≡ out.old.items ++ reason_words text.now why) }
+{
+    match why {
+        SkipReason::NoSet => append(b"is skipped: it isn't a set", out),
+        SkipReason::UnknownType(p) => append_token(
+            text,
+            b"is left out: it has the type '",
+            &p,
+            b"', which isn't known here",
+            out,
+        ),
+        SkipReason::UnknownExpression(p) => append_token(
+            text,
+            b"is left out: it has an expression with '",
+            &p,
+            b"', which isn't known here",
+            out,
+        ),
+        SkipReason::AutoMerge(p) => {
+            append_token(text, b"is left out: '", &p, b"' isn't read here", out)
+        }
+        SkipReason::CatchAll(p) => append_token(
+            text,
+            b"is left out: it has the catch-all element '",
+            &p,
+            b"'",
+            out,
+        ),
+        SkipReason::Stateful(p) => append_token(
+            text,
+            b"is left out: it has '",
+            &p,
+            b"', on which verdicts depend",
+            out,
+        ),
+        SkipReason::Unclosed => append(b"is skipped: its braces don't close", out),
+        SkipReason::HoldsItem => append(b"is skipped: another item is in its braces", out),
+        SkipReason::DroppedPart => append(b"is dropped: no verdict depends on it", out),
+    }
+}
+
 /// Appends what a line says of an item or a part.
 #[tactic(auto, using(std::proofs::Common::append_assoc))]
 pub fn append_said(
@@ -102,5 +143,5 @@ pub fn append_said(
     append(bytes_of(text, &skip.at), out)?;
     append_name(text, skip.name, out)?;
     append(b"' ", out)?;
-    append(reason_words(skip.why), out)
+    append_reason(text, skip.why, out)
 }

@@ -16,17 +16,18 @@ fn bytes_of<'a>(text: &'a [u8], token: &RoleToken) -> &'a [u8] {
 fn why_word(why: SkipReason) -> &'static [u8] {
     match why {
         SkipReason::NoSet => b" skipped",
-        SkipReason::UnknownType => b" unknown type",
-        SkipReason::AutoMerge => b" auto-merge",
-        SkipReason::CatchAll => b" catch-all",
-        SkipReason::Stateful => b" state",
+        SkipReason::UnknownType(_) => b" unknown type ",
+        SkipReason::UnknownExpression(_) => b" unknown expression ",
+        SkipReason::AutoMerge(_) => b" merges ",
+        SkipReason::CatchAll(_) => b" catch-all ",
+        SkipReason::Stateful(_) => b" state ",
         SkipReason::Unclosed => b" unclosed",
         SkipReason::HoldsItem => b" holds an item",
         SkipReason::DroppedPart => b" dropped",
     }
 }
 
-/// Appends a line, the first two words of an item or a part, and why it isn't kept.
+/// Appends a line, the first two words of an item or a part, and why it isn't kept, with the token that is the reason.
 fn append_skip(text: &[u8], skip: &Skipped, told: &mut Vec<u8>) -> Result<(), Memory> {
     append_pieces(
         &[
@@ -43,7 +44,11 @@ fn append_skip(text: &[u8], skip: &Skipped, told: &mut Vec<u8>) -> Result<(), Me
             told,
         )?;
     }
-    append_pieces(&[Piece::Word(why_word(skip.why))], told)
+    append_pieces(&[Piece::Word(why_word(skip.why))], told)?;
+    match skip.why.token() {
+        Some(token) => append_pieces(&[Piece::Word(bytes_of(text, &token))], told),
+        None => Ok(()),
+    }
 }
 
 /// How many sets and steps a script has.
@@ -209,7 +214,7 @@ const LISTED: &[u8] = b"\
     \t\tmeta mark & 0x000000ff != 0x00000001 counter packets 0 bytes 0 drop\n\
     \t}\n\
     }\n\
-    |7 sets 11 steps, 2 flags dormant skipped, 3 comment \"my table\" skipped, 5 counter c1 skipped, 9 quota q1 skipped, 13 limit l1 skipped, 17 ct helper skipped, 22 ct timeout skipped, 28 set blocked auto-merge, 38 dynamic dropped, 39 counter dropped, 46 dynamic dropped, 52 constant dropped, 58 constant dropped, 64 counter dropped, 68 set ifs unknown type, 73 set met state, 81 set quo state, 87 set cc state, 94 set ca catch-all, 113 map m skipped, 118 chain input skipped~\
+    |7 sets 11 steps, 2 flags dormant skipped, 3 comment \"my table\" skipped, 5 counter c1 skipped, 9 quota q1 skipped, 13 limit l1 skipped, 17 ct helper skipped, 22 ct timeout skipped, 28 set blocked merges auto-merge, 38 dynamic dropped, 39 counter dropped, 46 dynamic dropped, 52 constant dropped, 58 constant dropped, 64 counter dropped, 68 set ifs unknown type ifname, 73 set met state limit, 81 set quo state quota, 87 set cc state ct, 94 set ca catch-all *, 113 map m skipped, 118 chain input skipped~\
 ";
 
 /// Rulesets in the forms of fail2ban, firewalld and kube-proxy, of a server, and of a script that blocks countries. The
@@ -300,7 +305,7 @@ const WRITTEN: &[u8] = b"\
     set d { typeof ip saddr; ct count over 20; }\n\
     set e { typeof ct count; }\n\
     }\n\
-    |1 sets 2 steps, 3 set b unknown type, 4 set c unknown type, 5 set d state, 6 set e unknown type~\
+    |1 sets 2 steps, 3 set b unknown expression iifname, 4 set c unknown expression @, 5 set d state ct, 6 set e unknown expression count~\
     table ip t {\n\
     set s { type ipv4_addr; timeout 1h; }\n\
     chain c {\n\
