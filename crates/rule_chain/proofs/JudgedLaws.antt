@@ -94,7 +94,7 @@ number_back kinds.Proto = refl
 number_back kinds.Service = refl
 number_back kinds.Mark = refl
 
-same_are_equal : (ks others : List Kind) → same_kinds ks others ≡ true → ks ≡ others
+pub same_are_equal : (ks others : List Kind) → same_kinds ks others ≡ true → ks ≡ others
 same_are_equal [] [] h = refl
 same_are_equal [] (o ∷ others) h = let k = both (length {A = Kind} [] == length (o ∷ others)) (list_all (λ p. kind_number p.0 == kind_number p.1) (zip [] (o ∷ others))) h in let e = eqb-true 0 (length (o ∷ others)) k.0 in absurd (omega (arith, e))
 same_are_equal (k ∷ ks) [] h = let l = both (length (k ∷ ks) == length {A = Kind} []) (list_all (λ p. kind_number p.0 == kind_number p.1) (zip (k ∷ ks) [])) h in let e = eqb-true (length (k ∷ ks)) 0 l.0 in absurd (omega (arith, e))

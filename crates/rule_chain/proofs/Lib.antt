@@ -5,3 +5,5 @@ pub mod FileLaws
 pub mod JudgedLaws
 pub mod DecidingLaws
 pub mod LineLaws
+pub mod UnmetLaws
+mod Worked

@@ -1,5 +1,5 @@
 -- Reading a rules file gives what the table of its forms says.
-use Rattle.std.proofs.Common.{◌≡◌, inl, inr, refl, subst, ℕ, ◌<◌, List, [], ◌∷◌, ◌++◌, length, Bool, true, false, ◌&&◌, Option, Some, None, is_some, if◌then◌else◌, nat_lt, codes, bytes_eq, Result, OnOk}
+use Rattle.std.proofs.Common.{◌≡◌, inl, inr, refl, ap, subst, ℕ, ◌<◌, List, [], ◌∷◌, ◌++◌, length, Bool, true, false, ◌&&◌, Option, Some, None, is_some, if◌then◌else◌, nat_lt, codes, bytes_eq, Result, OnOk}
 use Rattle.set_model.specs.declared.script.SetDecl.{SetDecl}
 use Rattle.token_forms.specs.declared.token.Reason.{Reason}
 use Rattle.token_forms.specs.declared.error.ReadError.{ReadError}
@@ -18,10 +18,11 @@ use Rattle.rule_chain.specs.declared.chains.Chain.{Chain}
 use Rattle.rule_chain.specs.declared.draft.RulesDraft.{RulesDraft}
 use Rattle.rule_chain.specs.declared.draft.RulesWord.{RulesWord}
 use Rattle.rule_chain.specs.declared.draft.RulesWord.TheVariants as firsts
+use Rattle.rule_chain.specs.declared.draft.TestWord.{TestWord}
 use Rattle.rule_chain.specs.declared.draft.ActWord.{ActWord}
 use Rattle.rule_chain.specs.declared.draft.ActWord.TheVariants as acts
 use Rattle.rule_chain.specs.Chains.{most_tests}
-use Rattle.rule_chain.specs.RuleNames.{inside_of, test_of, act_of}
+use Rattle.rule_chain.specs.RuleNames.{inside_of, test_of, test_word_of, with_place, act_of}
 use Rattle.rule_chain.specs.Rules.{no_rules, with_chain}
 use Rattle.rule_chain.specs.Rules as form
 use Rattle.rule_chain.specs.RulesReading as reading
@@ -44,8 +45,19 @@ some_value {A} value t a h = go (is_word t.kind) h where
   go true h = rw h refl
   go false h = absurd (cc h)
 
+-- a word has a place exactly if it begins a test
+pub placed_some : (t : Lexeme) (o : Option Bool) (w : TestWord) → with_place t o ≡ Some w → o ≡ Some w.inside
+placed_some t None w h = absurd (cc h)
+placed_some t (Some inside) w h = let same : inside ≡ w.inside = cc h in ap Some same
+
+some_word : (n : ℕ) (t : Lexeme) (w : TestWord) → word_value (test_word_of n) t ≡ Some w → (is_word t.kind && is_some (test_of n t.bytes)) ≡ true
+some_word n t w h = go (is_word t.kind) h where
+  go : (b : Bool) → (elim b as (λ _. Option TestWord) [ true ↦ test_word_of n t | false ↦ None ]) ≡ Some w → (b && is_some (test_of n t.bytes)) ≡ true
+  go true h = ap is_some (placed_some t (test_of n t.bytes) w h)
+  go false h = absurd (cc h)
+
 test_begins : (schema : List SetDecl) (tests : List Test) → Begins (form.test schema tests) (starts_test tests)
-test_begins schema tests = bind_begins (word_by_reads [] _) (one_begins (starts_test tests) (λ t a h. some_value (λ t. test_of (length tests) t.bytes) t a h))
+test_begins schema tests = bind_begins (word_by_reads [] _) (one_begins (starts_test tests) (λ t a h. some_word (length tests) t a h))
 
 starts_begins : (tests : List Test) (t : Lexeme) → starts_test tests t ≡ true → begins_test t ≡ true
 starts_begins tests t h = go (nat_lt (length tests) most_tests) h where

@@ -21,10 +21,11 @@ use Rattle.rule_chain.specs.declared.draft.RulesWord.TheVariants as firsts
 use Rattle.rule_chain.specs.declared.draft.ActWord.{ActWord}
 use Rattle.rule_chain.specs.declared.draft.ActWord.TheVariants as words
 use Rattle.rule_chain.specs.Chains.{LeadsBack, IsRule, AreChains, rule_count, most_chains, most_rules, most_tests}
-use Rattle.rule_chain.specs.RuleNames.{inside_of, test_of, chain_place, rules_word_of}
-use Rattle.rule_chain.specs.Rules.{no_rules, with_chain}
+use Rattle.rule_chain.specs.RuleNames.{inside_of, test_of, test_word_of, chain_place, rules_word_of}
+use Rattle.rule_chain.specs.Rules.{no_rules, test_at, with_chain}
 use Rattle.rule_chain.specs.Rules as form
 use Rattle.rule_chain.specs.RulesText.{IsRulesText}
+use Rattle.rule_chain.proofs.RulesLaws.{placed_some}
 
 position_within : {X : Type 0} (p : X → Bool) (xs : List X) (i : ℕ) → position p xs ≡ Some i → i < length xs
 position_within p xs i h =
@@ -51,13 +52,13 @@ room_for_one tests t inside h = go (nat_lt tests most_tests) refl h where
   go false e h = absurd (cc h)
 
 test_keeps : (schema : List SetDecl) (tests after : List Test) (x : List Lexeme) → AreTests schema tests → (form.test schema tests).whole x after → AreTests schema after
-test_keeps schema tests after x k (inside, x1, y1, e1, (t, et, given), (p, x2, y2, e2, place, (i, x3, y3, e3, (u, eu, named), h))) =
-    let room = room_for_one (length tests) t.bytes inside (word_given (λ t. test_of (length tests) t.bytes) t inside given) in
+test_keeps schema tests after x k (first, x1, y1, e1, (t, et, given), (p, x2, y2, e2, place, (i, x3, y3, e3, (u, eu, named), h))) =
+    let room = room_for_one (length tests) t.bytes first.inside (placed_some t (test_of (length tests) t.bytes) first (word_given (test_word_of (length tests)) t first given)) in
     let there = position_within (is_set p.0 p.1 u.bytes) schema i (word_given (λ t. set_place schema p.0 p.1 t.bytes) u i named) in
-    let l = length-append tests (record { set = i; inside = inside } ∷ []) in
+    let l = length-append tests (test_at first i ∷ []) in
     subst (AreTests schema) h.1 (record {
       few = omega (arith, l);
-      declared = All-push (λ (t : Test). t.set < length schema) tests (record { set = i; inside = inside }) k.declared there;
+      declared = All-push (λ (t : Test). t.set < length schema) tests (test_at first i) k.declared there;
     })
 
 -- rules of the chain after these

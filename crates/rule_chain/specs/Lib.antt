@@ -5,3 +5,4 @@ pub mod RulesReading
 pub mod RulesText
 pub mod Judged
 pub mod JudgedText
+pub mod Unmet

@@ -1,10 +1,12 @@
 -- Words of rules files that have a meaning at their place.
 use Rattle.std.specs.Prelude.{ℕ, List, length, Bool, true, false, ◌&&◌, not, nat_lt, Option, Some, None, is_some, codes, cond, bytes_eq, position, if◌then◌else◌}
+use Rattle.token_forms.specs.Token.{Lexeme}
 use Rattle.token_forms.specs.Words.{is_name}
 use Rattle.rule_chain.specs.declared.chains.Chain.{Chain}
 use Rattle.rule_chain.specs.declared.draft.RulesDraft.{RulesDraft}
 use Rattle.rule_chain.specs.declared.draft.RulesWord.{RulesWord}
 use Rattle.rule_chain.specs.declared.draft.RulesWord.TheVariants as firsts
+use Rattle.rule_chain.specs.declared.draft.TestWord.{TestWord}
 use Rattle.rule_chain.specs.declared.draft.ActWord.{ActWord}
 use Rattle.rule_chain.specs.declared.draft.ActWord.TheVariants as acts
 use Rattle.rule_chain.specs.Chains.{most_chains, most_tests}
@@ -19,6 +21,15 @@ inside_of t =
 -- A test is allowed after fewer than four tests.
 abbrev pub test_of : ℕ → List ℕ → Option Bool
 test_of tests t = if nat_lt tests most_tests then inside_of t else None
+
+-- a word that means this, with its place
+abbrev pub with_place : Lexeme → Option Bool → Option TestWord
+with_place t None = None
+with_place t (Some inside) = Some (record { inside = inside; line = t.line; at = t.from })
+
+-- The first word of a test after so many tests.
+abbrev pub test_word_of : ℕ → Lexeme → Option TestWord
+test_word_of tests t = with_place t (test_of tests t.bytes)
 
 abbrev pub act_of : List ℕ → Option ActWord
 act_of t =

@@ -12,18 +12,23 @@ use Rattle.rule_chain.specs.declared.chains.Chain.{Chain}
 use Rattle.rule_chain.specs.declared.draft.RulesDraft.{RulesDraft}
 use Rattle.rule_chain.specs.declared.draft.RulesWord.{RulesWord}
 use Rattle.rule_chain.specs.declared.draft.RulesWord.TheVariants as firsts
+use Rattle.rule_chain.specs.declared.draft.TestWord.{TestWord}
 use Rattle.rule_chain.specs.declared.draft.ActWord.{ActWord}
 use Rattle.rule_chain.specs.declared.draft.ActWord.TheVariants as words
 use Rattle.rule_chain.specs.Chains.{most_rules}
-use Rattle.rule_chain.specs.RuleNames.{test_of, act_of, policy_of, rules_word_of, chain_place, new_chain_of}
+use Rattle.rule_chain.specs.RuleNames.{test_word_of, act_of, policy_of, rules_word_of, chain_place, new_chain_of}
 
--- One more test: `in` or `out`, and a declared set.
+-- a test of this set that begins with this word
+abbrev pub test_at : TestWord → ℕ → Test
+test_at first set = record { set = set; inside = first.inside; line = first.line; at = first.at }
+
+-- One more test: `in` or `out`, and a declared set. It has the place of its first word.
 abbrev pub test : List SetDecl → List Test → Form (List Test)
 test schema tests = do
-  inside ← word_by [] (λ t. test_of (length tests) t.bytes)
+  first ← word_by [] (test_word_of (length tests))
   p ← table_place
   i ← used_set schema p
-  done (tests ++ record { set = i; inside = inside } ∷ [])
+  done (tests ++ test_at first i ∷ [])
 
 -- the name of an earlier chain, which gives its place
 abbrev pub earlier_chain : List Chain → Form ℕ

@@ -14,24 +14,25 @@ use Rattle.rule_chain.specs.declared.chains.Chain.{Chain}
 use Rattle.rule_chain.specs.declared.draft.RulesDraft.{RulesDraft}
 use Rattle.rule_chain.specs.declared.draft.RulesWord.{RulesWord}
 use Rattle.rule_chain.specs.declared.draft.RulesWord.TheVariants as firsts
+use Rattle.rule_chain.specs.declared.draft.TestWord.{TestWord}
 use Rattle.rule_chain.specs.declared.draft.ActWord.{ActWord}
 use Rattle.rule_chain.specs.declared.draft.ActWord.TheVariants as words
-use Rattle.rule_chain.specs.RuleNames.{test_of, act_of, policy_of, rules_word_of, chain_place, new_chain_of}
-use Rattle.rule_chain.specs.Rules.{no_rules, with_chain}
+use Rattle.rule_chain.specs.RuleNames.{test_of, test_word_of, act_of, policy_of, rules_word_of, chain_place, new_chain_of}
+use Rattle.rule_chain.specs.Rules.{no_rules, test_at, with_chain}
 
 -- what starts one more test
 abbrev pub starts_test : List Test → Lexeme → Bool
 starts_test tests t = is_word t.kind && is_some (test_of (length tests) t.bytes)
 
-abbrev pub inside : ℕ → Reading Bool
-inside tests = word_by [] (λ t. test_of tests t.bytes)
+abbrev pub first_word_of : ℕ → Reading TestWord
+first_word_of tests = word_by [] (test_word_of tests)
 
 unfoldable pub one_test : List SetDecl → List Test → Reading (List Test)
 one_test schema tests = do
-  inside ← inside (length tests)
+  first ← first_word_of (length tests)
   p ← table_place
   i ← used_set schema p
-  done (tests ++ record { set = i; inside = inside } ∷ [])
+  done (tests ++ test_at first i ∷ [])
 
 abbrev pub all_tests : List SetDecl → Reading (List Test)
 all_tests schema = many starts_test (one_test schema) []

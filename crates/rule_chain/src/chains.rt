@@ -22,6 +22,10 @@ pub struct Test {
     pub set: u32,
     /// Whether it asks for an element that holds the key, or for none.
     pub inside: bool,
+    /// The line of its first word in the rules file: 1 plus the number of line feeds before it.
+    pub line: u64,
+    /// The place of its first byte in the rules file, from 0.
+    pub at: u64,
 }
 
 impl Duplicate for Test {

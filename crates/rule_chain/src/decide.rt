@@ -42,7 +42,7 @@ fn is_as_asked(inside: bool, found: bool) -> bool
     if inside { found } else { !found }
 }
 
-fn are_alike(schema: &[SetDecl], set: u32, other: u32) -> bool
+pub(crate) fn are_alike(schema: &[SetDecl], set: u32, other: u32) -> bool
     ensures { result ≡ alike (slice_get schema.now set) (slice_get schema.now other) }
 {
     match schema.get(set as usize) {

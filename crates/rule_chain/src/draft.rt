@@ -27,6 +27,17 @@ pub enum RulesWord {
     Policy,
 }
 
+/// The first word of a test, and its place.
+#[derive(Clone, Copy, Debug, PartialEq, Eq)]
+pub struct TestWord {
+    /// Whether it is `in`, and not `out`.
+    pub inside: bool,
+    /// Its line: 1 plus the number of line feeds before it.
+    pub line: u64,
+    /// The place of its first byte, from 0.
+    pub at: u64,
+}
+
 /// The word of a rule's act.
 #[derive(Clone, Copy, Debug, PartialEq, Eq)]
 pub enum ActWord {

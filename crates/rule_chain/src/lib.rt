@@ -18,12 +18,14 @@
 //! one, `out` for none. A jump leads to an earlier chain. If that chain decides nothing, the next rule
 //! follows. A walk visits each chain at most once and takes no memory. [`read_rules`] reads a rules
 //! file, [`Chains::decide`] gives the verdict on one packet, and [`write_judged`] writes the lines of
-//! packets.
+//! packets. A packet meets no test of a set whose kinds aren't those of its own set. [`Chains::unmet`]
+//! finds the tests that no packet can meet for this reason.
 //!
 //! **Definitions:** `specs/Rules.antt` is the grammar as a table of forms. `RuleNames.antt` has its
 //! words, `RulesText.antt` says what a text means, and `Chains.antt` what holds of it. `Judged.antt`
-//! says what chains decide on a packet, and `JudgedText.antt` is its line. **Theory:** docs/formats.md,
-//! "Rules files". **Proofs:** docs/proofs.md, "Grammars (`token_forms`)".
+//! says what chains decide on a packet, `JudgedText.antt` is its line, and `Unmet.antt` has the tests that
+//! no packet can meet. **Theory:** docs/formats.md, "Rules files". **Proofs:** docs/proofs.md, "Grammars
+//! (`token_forms`)".
 #![tactic(auto)]
 
 mod blocks;
@@ -34,6 +36,7 @@ mod file;
 mod lines;
 mod lookups;
 mod rules;
+mod unmet;
 mod words;
 
 pub use chains::{Act, Chain, ChainList, Chains, Rule, RuleList, Test, Tests};
@@ -43,3 +46,4 @@ pub use file::{
 pub use lines::{judged_rules_law, write_judged};
 pub use lookups::Lookups;
 pub use token_forms::{BadToken, Reason};
+pub use unmet::{add_type, key_types, unmet_law};

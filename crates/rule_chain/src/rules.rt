@@ -8,7 +8,7 @@ ghost use Rattle.rule_chain.specs.RulesReading as reading;
 ghost use Rattle.rule_chain.specs.RulesReading.{starts_test};
 
 use crate::chains::{Act, Chain, Rule, RuleList, Test, Tests};
-use crate::draft::ActWord;
+use crate::draft::{ActWord, TestWord};
 use crate::words::{act_word, place_of_chain, test_word};
 use set_model::{Listed, SetDecl};
 use set_script::{table_place, used_set};
@@ -17,12 +17,16 @@ use token_forms::{ReadError, Reader, Seen};
 
 /// Reads the word that begins a test, if one more is allowed after so many tests.
 #[tactic(auto, unfolding(token_forms::specs::Gives::Refuses))]
-fn inside(reader: &mut Reader, tests: u64) -> Result<bool, ReadError>
-    ensures { Gives (λ x. x) result reader.new (reading.inside tests reader.old) }
+fn first_word(reader: &mut Reader, tests: u64) -> Result<TestWord, ReadError>
+    ensures { Gives (λ x. x) result reader.new (reading.first_word_of tests reader.old) }
 {
     let t = reader.next()?;
     match test_word(tests, t.bytes) {
-        Some(inside) if t.is_word() => Ok(inside),
+        Some(inside) if t.is_word() => Ok(TestWord {
+            inside,
+            line: t.line,
+            at: t.from,
+        }),
         _ => Err(t.refused(&[])),
     }
 }
@@ -33,10 +37,15 @@ fn test(reader: &mut Reader, schema: &[SetDecl], tests: &mut Tests) -> Result<()
     requires { length schema.now ≤ most_sets }
     ensures { Gives (λ _. tests.new) result reader.new (reading.one_test schema.now tests.old reader.old) }
 {
-    let inside = inside(reader, tests.len())?;
+    let first = first_word(reader, tests.len())?;
     let (family, table) = table_place(reader)?;
     let set = used_set(reader, schema, family, table)?;
-    tests.push(Test { set, inside })?;
+    tests.push(Test {
+        set,
+        inside: first.inside,
+        line: first.line,
+        at: first.at,
+    })?;
     Ok(())
 }
 
