@@ -1,3 +1,4 @@
 pub mod Shown
 pub mod Source
 pub mod OtherKind
+pub mod Marked

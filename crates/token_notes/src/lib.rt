@@ -20,7 +20,7 @@
 //! shown and where its carets are, and exactly which texts have the marks of another kind ([`is_other_kind`]).
 //!
 //! **Definitions:** `specs/Shown.antt` says how a byte is shown and how a note begins. `Source.antt` has the line of a token
-//! and its carets, and `OtherKind.antt` the marks of another kind.
+//! and its carets, and `OtherKind.antt` the marks of another kind. `Marked.antt` has what is said of a token that isn't bad.
 //! **Theory:** docs/formats.md, "The standard error".
 #![tactic(auto)]
 
@@ -28,6 +28,7 @@ mod content;
 mod explained;
 mod files;
 mod help;
+mod marked;
 mod near;
 mod note;
 mod source;
@@ -45,6 +46,7 @@ pub use help::{
     LONG_KEY, NO_INTERFACE, RULES_FILE, SELECTORS, SIZE, TIME, TextKind, explain_plainly,
     explain_reference, explain_slashes, explain_slashes_in_list, is_slashes,
 };
+pub use marked::Marked;
 pub use near::{is_same_in_lower_case, nearest};
 pub use note::Note;
 pub use source::{Cut, cut_at, first_line, first_of, last_line, shortened};

@@ -1,0 +1,2 @@
+pub mod PlanLaws
+mod Worked
