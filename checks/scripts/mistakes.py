@@ -27,7 +27,7 @@ PROTO = "write a number from 0 to 255, or a protocol's name in lower case, as tc
 MARK = "write a number from 0 to 4294967295, or 0x and 1 to 8 hexadecimal digits"
 TYPES = "the types are ipv4_addr, ipv6_addr, ether_addr, inet_proto, inet_service and mark"
 EXPRESSIONS = "the expressions are of addresses, ports, protocols and marks, as: typeof ip saddr . tcp dport"
-WHOLE_EXPRESSION = "write the whole expression before it, as: tcp dport"
+PORT_WORD = "write sport or dport after 'tcp'"
 LONG_KEY = "a key has 16 fields and 64 bytes at most: ipv6_addr takes 16 of them, ether_addr 8, each other type 4"
 PAIR = "the set's type is ipv4_addr . inet_service"
 COMMA = "',' or '}' is expected after an element"
@@ -38,12 +38,12 @@ TABLE_NAME = "a table is named by [FAMILY] TABLE; a name begins with a letter or
 SET_NAME = "a set is named by [FAMILY] TABLE SET; a name begins with a letter or '_'"
 ALONE_LINE = "and write ';' without '\\', as: add set ip t p { type mark; }"
 NO_QUOTES = "leave out the quotes: only comments have them"
-ENDS = "ends with the set's name: write ';' or a new line after it"
 TIME = "write seconds, as 90, or parts from days to milliseconds, as 1d2h3m4s500ms"
 
-MARKS = "write each mark that is meant, or a range of them, as 0x10-0x1f"
+ONE_BY_ONE = "write each mark that is meant"
+MARKS = ONE_BY_ONE + ", or a range of them, as 0x10-0x1f"
 IPTABLES = "can't begin a statement: this looks like a file of iptables-save, which has no sets"
-FROM_RULES = "translate the sets that its rules name, and list those: ipset save | ipset-translate restore > sets.nft; pipapo list sets.nft"
+FROM_RULES = "its sets are kept by ipset; to list them, run: ipset save | ipset-translate restore > sets.nft; pipapo list sets.nft"
 FAMILIES = "the families are ip, ip6, inet, arp, bridge and netdev"
 EXTRA = "leave it out, or begin a new line with it"
 
@@ -90,9 +90,9 @@ MISTAKES = [
     (add("p", "53/udp"), 2, 22, "'53/udp' doesn't fit field 1 (inet_service): a port is a number alone", "write 53; a protocol is a field of its own, of the type inet_proto", "syntax error, unexpected udp, expecting number"),
     (add("l", "6 . 0x10/0xff"), 2, 26, "'0x10/0xff' doesn't fit field 2 (mark): a mark in a set has no mask", MARKS, "Prefix length 255 is invalid for type of 32 bits width"),
     (add("l", "6 . 0x10/255"), 2, 26, "'0x10/255' doesn't fit field 2 (mark): a mark in a set has no mask", MARKS, "Prefix length 255 is invalid for type of 32 bits width"),
-    (declare("type mark; elements = { 0x10/8 }"), 2, 42, "'0x10/8' is a prefix, and the set has single values", MARKS, "You must add 'flags interval' to your set declaration if you want to add prefix elements"),
-    (add("a", "0/0 . 80"), 2, 22, "'0/0' isn't a value", "write all addresses as 0.0.0.0/0", "taken"),
-    (declare("type ipv4_addr; elements = { any }"), 2, 47, "'any' isn't a value", "write all addresses as 0.0.0.0/0, and declare the set with 'flags interval'", "Could not resolve"),
+    (declare("type mark; elements = { 0x10/8 }"), 2, 42, "'0x10/8' is a prefix, and the set has single values", ONE_BY_ONE, "You must add 'flags interval' to your set declaration if you want to add prefix elements"),
+    (add("a", "0/0 . 80"), 2, 22, "'0/0' isn't a value", "to match all addresses, write 0.0.0.0/0", "taken"),
+    (declare("type ipv4_addr; elements = { any }"), 2, 47, "'any' isn't a value", "to match all addresses, write 0.0.0.0/0, and declare the set with 'flags interval'", "Could not resolve"),
     (declare("type ipv4_addr; flags timeout; elements = { 10.0.0.0/8 }"), 2, 62, "'10.0.0.0/8' is a prefix, and the set has single values", "declare the set with 'flags timeout, interval'", "You must add 'flags interval' to your set declaration if you want to add prefix elements"),
     (add("v", "fe80::1%eth0"), 2, 29, "'%' is an unexpected character", "leave it out with what follows: an address has no interface", "syntax error, unexpected junk, expecting comma or '}'"),
     (add("p", "10-web"), 2, 22, "'10-web' doesn't fit field 1 (inet_service): 'web' isn't a port", PORT, "Could not resolve"),
@@ -116,8 +116,8 @@ MISTAKES = [
     (add("p", "80 comment, 443"), 2, 32, "',' can't follow 'comment'", 'write the comment in quotes, as: comment "web"', "syntax error, unexpected comma, expecting string or quoted string or string with a trailing asterisk"),
     (add("p", "ssh-443"), 2, 22, "'ssh-443' doesn't fit field 1 (inet_service): a port is a number and not a name", "use 22 for 'ssh'", "Could not resolve"),
     (add("p", "80..90"), 2, 22, "'80..90' doesn't fit field 1 (inet_service): a range has '-' between its ends", "write 80-90", "syntax error, unexpected string, expecting comma or '}'"),
-    (add("a", "any . 80"), 2, 22, "'any' isn't a value", "write all addresses as 0.0.0.0/0", "Could not resolve"),
-    (add("p", "all"), 2, 22, "'all' isn't a value", "write all ports as 0-65535", "syntax error, unexpected all"),
+    (add("a", "any . 80"), 2, 22, "'any' isn't a value", "to match all addresses, write 0.0.0.0/0", "Could not resolve"),
+    (add("p", "all"), 2, 22, "'all' isn't a value", "to match all ports, write 0-65535", "syntax error, unexpected all"),
     (add("a", "10.0.0.* . 80"), 2, 22, "'10.0.0.' doesn't fit field 1 (ipv4_addr): it isn't an IPv4 address", "write a network as a prefix, as 192.0.2.0/24", "syntax error, unexpected string with a trailing asterisk, expecting comma or '}'"),
     (add("p", "$ports"), 2, 22, "'$' is an unexpected character", "write the values themselves: there are no variables", "unknown identifier 'ports'"),
     (add("p", "@n"), 2, 22, "'@' is an unexpected character", "write the values themselves: there are no references to sets", "syntax error, unexpected @"),
@@ -127,9 +127,9 @@ MISTAKES = [
     (add("p", "!80"), 2, 22, "'!' is an unexpected character", "write the values that the set holds: there is no negation and no comparison", "syntax error, unexpected !"),
     (add("p", "80 | 90"), 2, 25, "'|' is an unexpected character", "write the value itself: there are no operators", "taken"),
     (SETS + "add element ip t p { 80, \\ 90 }\n", 2, 26, "'\\' is an unexpected character", "end the line right after it, or leave it out", "syntax error, unexpected junk, expecting comma or '}'"),
-    (add("p", "*"), 2, 22, "'*' isn't supported", "write all ports as 0-65535", ""),
-    (add("a", "* . 80"), 2, 22, "'*' isn't supported", "write all addresses as 0.0.0.0/0", "syntax error, unexpected ., expecting comma or '}'"),
-    (add("v", "*"), 2, 22, "'*' isn't supported", "write all addresses as ::/0", ""),
+    (add("p", "*"), 2, 22, "'*' isn't supported", "to match all ports, write 0-65535", ""),
+    (add("a", "* . 80"), 2, 22, "'*' isn't supported", "to match all addresses, write 0.0.0.0/0", "syntax error, unexpected ., expecting comma or '}'"),
+    (add("v", "*"), 2, 22, "'*' isn't supported", "to match all addresses, write ::/0", ""),
     (add("p", "80 // web"), 2, 25, "'//' doesn't begin a comment", "write it as: 80 comment \"web\"; or close the braces before a comment with '#'", "syntax error, unexpected /, expecting number"),
     (SETS + "// web\nadd element ip t p { 80 }\n", 2, 1, "'//' doesn't begin a comment", "begin a comment with '#'", "syntax error, unexpected /"),
     (add("a", "10.0.0.1 . { 80, 90 }"), 2, 33, "'{' begins a list in an element", "write an element for each value, as: 192.0.2.1 . 80, 192.0.2.1 . 443", "syntax error, unexpected '{'"),
@@ -163,7 +163,7 @@ MISTAKES = [
     (declare("type ipv4_addr inet_service"), 2, 33, "'inet_service' can't follow a type", "write ' . ' between types", "syntax error, unexpected string, expecting newline or semicolon or ."),
     (declare("type ipv4_addr, inet_service"), 2, 32, "',' can't follow a type", "write ' . ' between types", "syntax error, unexpected comma, expecting newline or semicolon or ."),
     (declare("type ipv4_addr : inet_service"), 2, 33, "':' makes a map of the set", "write one '.' between types; there are no maps", "syntax error, unexpected colon, expecting newline or semicolon or ."),
-    (declare("type mark flags interval"), 2, 28, "'flags' can't follow here", END_ITEM, "syntax error, unexpected flags, expecting newline or semicolon or ."),
+    (declare("type mark flags interval"), 2, 28, "'flags' comes after the end of the item", END_ITEM, "syntax error, unexpected flags, expecting newline or semicolon or ."),
     (declare("type mark; flags intervall"), 2, 35, "'intervall' isn't a flag", "did you mean 'interval'?", "syntax error, unexpected string, expecting constant or interval or dynamic or timeout"),
     (declare("type mark; flags interval timeout"), 2, 44, "'timeout' can't follow a flag without ','", "write ',' between flags", "syntax error, unexpected timeout, expecting newline or semicolon or comma"),
     (declare("type mark; flags interval, interval"), 2, 45, "'interval' is given twice", "leave one of the two out", "taken"),
@@ -182,7 +182,8 @@ MISTAKES = [
     (declare("typeof iifname"), 2, 25, "'iifname' isn't part of an expression that is known here", EXPRESSIONS, "taken"),
     (declare("typeof ip sadr"), 2, 28, "'sadr' isn't part of an expression that is known here", "did you mean 'saddr'?", "syntax error, unexpected string"),
     (declare("typeof ipv4_addr . inet_service"), 2, 25, "'ipv4_addr' isn't part of an expression that is known here", EXPRESSIONS, "primary expression type 'symbol' lacks typeof serialization"),
-    (declare("typeof tcp . ip saddr"), 2, 29, "'.' comes before the end of an expression", WHOLE_EXPRESSION, "syntax error, unexpected ."),
+    (declare("typeof tcp . ip saddr"), 2, 29, "'.' comes before the end of an expression", PORT_WORD, "syntax error, unexpected ."),
+    (declare("typeof tcp"), 2, 28, "';' comes before the end of an expression", PORT_WORD, "syntax error, unexpected semicolon"),
     (declare("typeof ip saddr tcp dport"), 2, 34, "'tcp' can't follow a whole expression", "write ' . ' between expressions", "syntax error, unexpected tcp, expecting newline or semicolon or ."),
     (declare("typeof ip saddr, tcp dport"), 2, 33, "',' can't follow a whole expression", "write ' . ' between expressions", "syntax error, unexpected comma, expecting newline or semicolon or ."),
     (declare("typeof ip6 saddr . ip6 saddr . ip6 saddr . ip6 saddr . ip6 saddr"), 2, 77, "'saddr' makes the key too long", LONG_KEY, "Could not process rule: Invalid argument"),
@@ -204,7 +205,7 @@ MISTAKES = [
     (SETS + "remove element ip t p { 80 }\n", 2, 1, "'remove' can't begin a statement", "did you mean 'delete'?", "syntax error, unexpected element, expecting string"),
     (SETS + "insert element ip t p { 80 }\n", 2, 1, "'insert' can't begin a statement", "did you mean 'add'?", "syntax error, unexpected element, expecting rule"),
     (SETS + "ADD element ip t p { 80 }\n", 2, 1, "'ADD' can't begin a statement", "did you mean 'add'?", "syntax error, unexpected element, expecting string"),
-    (SETS + "begin\nadd element ip t p { 80 }\n", 2, 1, "'begin' can't begin a statement", "leave it out: a transaction begins by itself, and ends with 'commit' or 'abort'", "syntax error, unexpected newline, expecting string"),
+    (SETS + "begin\nadd element ip t p { 80 }\n", 2, 1, "'begin' can't begin a statement", "leave the statement out: a transaction begins by itself, and ends with 'commit' or 'abort'", "syntax error, unexpected newline, expecting string"),
     ("comit\n", 1, 1, "'comit' can't begin a statement", "did you mean 'commit'?", "syntax error, unexpected newline, expecting string"),
     ("element ip t p { 80 }\n", 1, 1, "'element' can't begin a statement", "write 'add', 'create', 'delete' or 'destroy' before it", "No such file or directory"),
     ("set s { type mark; }\n", 1, 1, "'set' can't begin a statement", "write it into the braces of a table, or as: add set [FAMILY] TABLE SET { .. }", "syntax error, unexpected '{', expecting string"),
@@ -215,25 +216,25 @@ MISTAKES = [
     ("}\n", 1, 1, "'}' closes no '{'", "remove it, or add the '{' that is missing before it", "syntax error, unexpected '}'"),
     ("add elements ip t p { 80 }\n", 1, 5, "'elements' can't follow 'add'", "did you mean 'element'?", "syntax error, unexpected elements, expecting string"),
     ("add ip t p { 80 }\n", 1, 5, "'ip' can't follow 'add'", "'add' is followed by table, set or element", "syntax error, unexpected newline"),
-    ("delete set ip t p\n", 1, 8, "'set' can't be deleted", "leave it out, or write 'flush set' to remove the elements of a set that is declared", "Could not process rule: No such file or directory"),
-    ("delete table ip t\n", 1, 8, "'table' can't be deleted", "leave it out: a script begins without sets; later 'flush set' removes a set's elements", "Could not process rule: No such file or directory"),
+    ("delete set ip t p\n", 1, 8, "'set' can't be deleted", "leave the statement out, or write 'flush set' to remove the elements of a set that is declared", "Could not process rule: No such file or directory"),
+    ("delete table ip t\n", 1, 8, "'table' can't be deleted", "leave the statement out: a script begins without sets; later 'flush set' removes a set's elements", "Could not process rule: No such file or directory"),
     ("create set ip t s { type mark; }\n", 1, 8, "'set' can't follow 'create'", "write 'add set' to declare a set", "No such file or directory"),
     ("create table ip t\n", 1, 8, "'table' can't follow 'create'", "write 'add table' to declare a table", "taken"),
     ("delete elements ip t p { 80 }\n", 1, 8, "'elements' can't follow 'delete'", "did you mean 'element'?", "syntax error, unexpected elements"),
-    ("destroy everything\n", 1, 9, "'everything' can't follow 'destroy'", "create, delete and destroy are followed by element", "syntax error, unexpected newline"),
+    ("destroy everything\n", 1, 9, "'everything' can't follow 'destroy'", "write 'destroy element' to remove some elements, or 'flush set' to remove all of a set", "syntax error, unexpected newline"),
     ("add p 80\n", 1, 5, "'p' can't follow 'add'", "write 'element', the set, and the elements in braces, as: add element ip t p { 80, 443 }", "syntax error, unexpected number, expecting string"),
     # files of other programs
-    ("create s hash:net family inet hashsize 1024 maxelem 65536\n", 1, 8, "'s' can't follow 'create': this looks like a file of ipset", "translate the sets into nft's, and list those: ipset-translate restore < FILE > sets.nft; pipapo list sets.nft", "syntax error, unexpected string"),
+    ("create s hash:net family inet hashsize 1024 maxelem 65536\n", 1, 8, "'s' can't follow 'create': this looks like a file of ipset", "to list its sets, run: ipset-translate restore < FILE > sets.nft; pipapo list sets.nft", "syntax error, unexpected string"),
     ("*filter\n", 1, 1, "'*' " + IPTABLES, FROM_RULES, "syntax error, unexpected *"),
     (":INPUT ACCEPT [0:0]\n", 1, 1, "':INPUT' " + IPTABLES, FROM_RULES, "syntax error, unexpected colon"),
     ("-A INPUT -s 10.0.0.0/8 -j ACCEPT\n", 1, 1, "'-A' " + IPTABLES, FROM_RULES, "syntax error, unexpected -"),
     ("table ip t\n", 1, 11, "the end of the line can't follow the table's name", "write '{' after it, or 'add table' before it", "taken"),
     ("add table ip t { }\n", 1, 16, "'{' can't follow 'add table'", "write 'table' in place of 'add table'", "taken"),
     ("add set ip t {\n", 1, 14, "'{' isn't the name of a set", SET_NAME, "syntax error, unexpected '{', expecting string"),
-    (SETS + "flush set ip t p p\n", 2, 18, "'p' can't follow here", "'flush set' " + ENDS, "syntax error, unexpected string, expecting end of file or newline or semicolon"),
-    (SETS + "flush set ip t p { 80 }\n", 2, 18, "'{' can't follow here", "'flush set' removes all elements: write 'delete element' to remove some", "syntax error, unexpected '{', expecting end of file or newline or semicolon"),
-    ("add table ip t t\n", 1, 16, "'t' can't follow here", "'add table' ends with the table's name: write ';' or a new line after it", "syntax error, unexpected string, expecting end of file or newline or semicolon"),
-    (SETS + "ip t p 80\n", 2, 1, "'ip' can't begin a statement", "to add it, write: add element ip t s { 80 }; to look it up, write the line into a key file, which 'run' takes after the script", "syntax error, unexpected newline"),
+    (SETS + "flush set ip t p p\n", 2, 18, "'p' comes after the end of the statement", "leave it out: 'flush set' ends with the set's name", "syntax error, unexpected string, expecting end of file or newline or semicolon"),
+    (SETS + "flush set ip t p { 80 }\n", 2, 18, "'{' can't follow the set's name", "'flush set' removes all elements: write 'delete element' to remove some", "syntax error, unexpected '{', expecting end of file or newline or semicolon"),
+    ("add table ip t t\n", 1, 16, "'t' comes after the end of the statement", "leave it out: 'add table' ends with the table's name", "syntax error, unexpected string, expecting end of file or newline or semicolon"),
+    (SETS + "ip t p 80\n", 2, 1, "'ip' can't begin a statement", "to add it, write: add element ip t p { 80 }; to look it up, write the line into a key file, which 'run' takes after the script", "syntax error, unexpected newline"),
     # lines of a shell
     (SETS + "nft add element ip t p { 80 }\n", 2, 1, "'nft' can't begin a statement", "leave out 'nft', " + ALONE_LINE, "syntax error, unexpected add, expecting string"),
     (SETS + "sudo nft add element ip t p { 80 }\n", 2, 1, "'sudo' can't begin a statement", "leave out all up to 'nft', " + ALONE_LINE, "syntax error, unexpected element, expecting @ or '$'"),
@@ -242,7 +243,7 @@ MISTAKES = [
     ("add table ip t\nadd set ip t s { type mark\\; }\n", 2, 27, "'\\' is an unexpected character", "leave it out: only a shell needs it", "syntax error, unexpected junk, expecting newline or semicolon or ."),
     (SETS + "add element ip t p \\{ 80 \\}\n", 2, 20, "'\\' is an unexpected character", "leave it out: only a shell needs it", "syntax error, unexpected junk, expecting '{' or '$'"),
     (SETS + "add element ip t p { 80 } \\", 2, 27, "'\\' is an unexpected character", "leave it out: the text ends here", "syntax error, unexpected junk, expecting end of file or newline or semicolon"),
-    (SETS + "add element ip t p { 80 } \\\nadd element ip t p { 90 }\n", 3, 1, "'add' can't follow here", "leave out the '\\' at the end of the line before, which joins the two lines", "syntax error, unexpected add, expecting end of file or newline or semicolon"),
+    (SETS + "add element ip t p { 80 } \\\nadd element ip t p { 90 }\n", 3, 1, "'add' comes after the end of the statement", "leave out the '\\' at the end of the line before, which joins the two lines", "syntax error, unexpected add, expecting end of file or newline or semicolon"),
     (SETS + "'add element ip t p { 80 }'\n", 2, 1, "''' is an unexpected character", 'leave it out: only comments are in quotes, as: comment "web"', "syntax error, unexpected junk"),
     # quotes
     (SETS + 'add element ip t p "{ 80 }"\n', 2, 20, "'\"{ 80 }\"' is a string, and can't come here", NO_QUOTES, "syntax error, unexpected quoted string, expecting '{' or '$'"),
@@ -251,44 +252,44 @@ MISTAKES = [
     (add("a", '"192.0.2.1 . 80"'), 2, 22, "'\"192.0.2.1 . 80\"' is a string, and values are expected", "leave out the quotes, as: 192.0.2.1 . 80", "invalid data type, expected concatenation of (IPv4 address, internet network service)"),
     (add("p", '"80"'), 2, 22, "'\"80\"' is a string, and a value is expected", "write the value without quotes", "taken"),
     (add("p", '80 "web"'), 2, 25, "'\"web\"' can't follow an element", "write 'comment' before it, or leave it out", "syntax error, unexpected quoted string, expecting comma or '}'"),
-    (SETS + "add element ip t p { 80 } commit\n", 2, 27, "'commit' can't follow here", END_STATEMENT, "syntax error, unexpected string, expecting end of file or newline or semicolon"),
+    (SETS + "add element ip t p { 80 } commit\n", 2, 27, "'commit' comes after the end of the statement", END_STATEMENT, "syntax error, unexpected string, expecting end of file or newline or semicolon"),
     (SETS + "flush ruleset\n", 2, 7, "'ruleset' can't be flushed here", "'flush ruleset' can only be the first statement", "taken"),
     ("at 10\nat 9\n", 2, 4, "'9' is before the last moment, 10", "write a later moment: in a script moments never fall", "syntax error, unexpected number, expecting string"),
     ("at noon\n", 1, 4, "'noon' isn't a moment", "write a number of milliseconds, at most 1000000000000000", "syntax error, unexpected newline"),
     ("define x = 1\n", 1, 1, "'define' isn't supported", "write the values themselves: there are no variables", "taken"),
     ("include \"x\"\n", 1, 1, "'include' isn't supported", "copy the included file to this place", "File not found: x"),
     # families
-    ("table ipv4 t {\n\tset s { type mark; }\n}\n", 1, 12, "'t' can't come here, since 'ipv4' isn't a family", "did you mean 'ip'?", "syntax error, unexpected string, expecting end of file or newline or semicolon"),
-    ("table IP t {\n}\n", 1, 10, "'t' can't come here, since 'IP' isn't a family", "did you mean 'ip'?", "syntax error, unexpected string, expecting end of file or newline or semicolon"),
-    ("table filter ip {\n}\n", 1, 14, "'ip' can't come here, since 'filter' isn't a family", FAMILIES, "syntax error, unexpected ip, expecting end of file or newline or semicolon"),
-    ("add set ipv6 t s { type mark; }\n", 1, 16, "'s' can't come here, since 'ipv6' isn't a family", "did you mean 'ip6'?", "syntax error, unexpected string, expecting '{'"),
-    ("add table inet4 t\n", 1, 17, "'t' can't come here, since 'inet4' isn't a family", "did you mean 'ip'?", "syntax error, unexpected string, expecting end of file or newline or semicolon"),
-    (SETS + "add element ipv4 t p { 80 }\n", 2, 18, "'t' can't come here, since 'ipv4' isn't a family", "did you mean 'ip'?", "syntax error, unexpected string, expecting '{' or '$'"),
-    (SETS + "flush set ipv4 t p\n", 2, 16, "'t' can't come here, since 'ipv4' isn't a family", "did you mean 'ip'?", "syntax error, unexpected string, expecting end of file or newline or semicolon"),
+    ("table ipv4 t {\n\tset s { type mark; }\n}\n", 1, 12, "'t' can't come here: 'ipv4' isn't a family", "write 'ip' in place of 'ipv4'", "syntax error, unexpected string, expecting end of file or newline or semicolon"),
+    ("table IP t {\n}\n", 1, 10, "'t' can't come here: 'IP' isn't a family", "write 'ip' in place of 'IP'", "syntax error, unexpected string, expecting end of file or newline or semicolon"),
+    ("table filter ip {\n}\n", 1, 14, "'ip' can't come here: 'filter' isn't a family", FAMILIES, "syntax error, unexpected ip, expecting end of file or newline or semicolon"),
+    ("add set ipv6 t s { type mark; }\n", 1, 16, "'s' can't come here: 'ipv6' isn't a family", "write 'ip6' in place of 'ipv6'", "syntax error, unexpected string, expecting '{'"),
+    ("add table inet4 t\n", 1, 17, "'t' can't come here: 'inet4' isn't a family", "write 'ip' in place of 'inet4'", "syntax error, unexpected string, expecting end of file or newline or semicolon"),
+    (SETS + "add element ipv4 t p { 80 }\n", 2, 18, "'t' can't come here: 'ipv4' isn't a family", "write 'ip' in place of 'ipv4'", "syntax error, unexpected string, expecting '{' or '$'"),
+    (SETS + "flush set ipv4 t p\n", 2, 16, "'t' can't come here: 'ipv4' isn't a family", "write 'ip' in place of 'ipv4'", "syntax error, unexpected string, expecting end of file or newline or semicolon"),
     # names of sets that are cut short
     (SETS + "add element p { 80 }\n", 2, 15, "'{' isn't the name of a set", "did you mean 'ip t p'?", "syntax error, unexpected '{', expecting string"),
     (SETS + "add element ip t { 80 }\n", 2, 18, "'{' isn't the name of a set", "the sets declared before are ip t p, ip t a, ip t n, ip t v, ip t l, ip t e", "syntax error, unexpected '{', expecting string"),
     # words of nft's rules, and marks, in a set's items
     (declare("type tcp dport"), 2, 23, "'tcp' isn't a type", "write inet_service in place of 'tcp dport'", "syntax error, unexpected tcp"),
-    (declare("type ip saddr . tcp dport"), 2, 23, "'ip' isn't a type", "write ipv4_addr in place of 'ip saddr'", "syntax error, unexpected ip"),
+    (declare("type ip saddr . tcp dport"), 2, 23, "'ip' isn't a type", "write ipv4_addr in place of 'ip saddr', and inet_service in place of 'tcp dport'", "syntax error, unexpected ip"),
     (declare("type ipv4_addr . meta mark"), 2, 35, "'meta' isn't a type", "write mark in place of 'meta mark'", "syntax error, unexpected meta"),
-    (declare("type ip.src . tcp.dstport"), 2, 23, "'ip.src' isn't a type", "write ipv4_addr in place of 'ip.src'", "unknown datatype ip.src"),
+    (declare("type ip.src . tcp.dstport"), 2, 23, "'ip.src' isn't a type", "write ipv4_addr in place of 'ip.src', and inet_service in place of 'tcp.dstport'", "unknown datatype ip.src"),
     (declare("type mark; interval"), 2, 29, "'interval' isn't an item of a set", "write 'flags' before it, as: flags interval", "syntax error, unexpected interval"),
     (declare("type mark; timeout = 1h"), 2, 37, "'=' can't come in this item", "leave it out: only 'elements' has a '=' after it", "syntax error, unexpected '=', expecting string"),
     (declare("type mark; size 65,536"), 2, 36, "',' can't come in a number", "write the digits alone, as 65536", "syntax error, unexpected comma, expecting newline or semicolon"),
     (declare("type ipv4_addr / inet_service"), 2, 33, "'/' can't follow a type", "write ' . ' between types", "syntax error, unexpected /, expecting newline or semicolon or ."),
     # statements of other languages
-    (SETS + "list ruleset\n", 2, 1, "'list' can't begin a statement", "leave it out: 'pipapo list FILE' prints the sets of a script", "taken"),
-    (SETS + "get element ip t p { 80 }\n", 2, 1, "'get' can't begin a statement", "leave it out: 'pipapo get FILE ip t p 80' looks a key up", "Could not process rule: No such file or directory"),
+    (SETS + "list ruleset\n", 2, 1, "'list' can't begin a statement", "leave the statement out: 'pipapo list FILE' prints the sets of a script", "taken"),
+    (SETS + "get element ip t p { 80 }\n", 2, 1, "'get' can't begin a statement", "leave the statement out: 'pipapo get FILE ip t p 80' looks a key up", "Could not process rule: No such file or directory"),
     (SETS + "update element ip t p { 80 }\n", 2, 1, "'update' can't begin a statement", "write 'add' in place of it; to change an element, write 'delete element' and then 'add element'", "syntax error, unexpected update"),
     (SETS + "rollback\n", 2, 1, "'rollback' can't begin a statement", "did you mean 'abort'?", "syntax error, unexpected newline, expecting string"),
     (SETS + "sleep 5\n", 2, 1, "'sleep' can't begin a statement", "write 'at' and the moment of what follows in milliseconds, as: at 5000", "syntax error, unexpected number, expecting string"),
     (SETS + "flush ip t p\n", 2, 7, "'ip' can't follow 'flush'", "write 'set' before it", "syntax error, unexpected ip"),
-    (SETS + "flush table ip t\n", 2, 7, "'table' can't follow 'flush'", "leave it out: it removes rules, and a script has none", "taken"),
+    (SETS + "flush table ip t\n", 2, 7, "'table' can't follow 'flush'", "leave the statement out: it removes rules, and a script has none", "taken"),
     (SETS + "flush element ip t p { 80 }\n", 2, 7, "'element' can't follow 'flush'", "write 'delete element' to remove some elements, or 'flush set' to remove all", "syntax error, unexpected element"),
-    (SETS + "commit all\n", 2, 8, "'all' can't follow here", EXTRA, "syntax error, unexpected all, expecting string"),
-    (SETS + "delete element ip t p { 80 } if exists\n", 2, 30, "'if' can't follow here", "leave it out, and write 'destroy element' in place of 'delete element'", "syntax error, unexpected string, expecting end of file or newline or semicolon"),
-    (SETS + "add element ip t p { 80 }, { 443 }\n", 2, 26, "',' can't follow here", "write one list, with one pair of braces around all elements, as: { 80, 443 }", "syntax error, unexpected comma, expecting end of file or newline or semicolon"),
+    (SETS + "commit all\n", 2, 8, "'all' comes after the end of the statement", EXTRA, "syntax error, unexpected all, expecting string"),
+    (SETS + "delete element ip t p { 80 } if exists\n", 2, 30, "'if' comes after the end of the statement", "leave it out, and write 'destroy element' in place of 'delete element'", "syntax error, unexpected string, expecting end of file or newline or semicolon"),
+    (SETS + "add element ip t p { 80 }, { 443 }\n", 2, 26, "',' comes after the end of the statement", "write one list, with one pair of braces around all elements, as: { 80, 443 }", "syntax error, unexpected comma, expecting end of file or newline or semicolon"),
     # words and marks in an element
     (add("l", "6 . 1 ttl 30s"), 2, 28, "'ttl' can't follow an element", "did you mean 'timeout'?", "syntax error, unexpected string, expecting comma or '}'"),
     (add("l", "6 . 1 timeout=30s"), 2, 35, "'=' can't come in an element", "leave it out, as: timeout 30s", "syntax error, unexpected '=', expecting string"),
@@ -393,17 +394,17 @@ SEVERAL = [
 
 KEY_FORM = "write the set and the values alone, as: ip filter allowed 192.0.2.1 . 80"
 NO_SET_NAME = "isn't the name of a set: a key has no words of a statement"
-ONE_VALUE = "write one value: a packet has one in each field"
+ONE_VALUE = "write a single value: a key describes one packet"
 IN_A_LINE = "write each key in a line of its own; the set's type is inet_service"
 OWN_LINES = "write each key in a line of its own, as: ip filter allowed 192.0.2.1 . 80"
 ONE_KEY = "'get' answers one key: write the keys into a file, one in each line, and then: pipapo run SCRIPT FILE"
-AT_FIRST = "write the moment before the script, as: pipapo get --at 500 SCRIPT .."
-NO_WORDS = "end the key before it: a key has the values alone"
+AT_FIRST = "write the moment in milliseconds before the script, as: pipapo get --at 500 SCRIPT .."
+NO_WORDS = "leave it out with what follows: a key is only the set and its values"
 NAMES_P = "write the set's family, table and name, as: ip t p"
 NO_FIELDS = "isn't the name of a set: a key doesn't name fields of a packet"
 TCPDUMP = "isn't the name of a set: this looks like a line of tcpdump"
 FROM_CAPTURE = KEY_FORM + "; 'pipapo capture' takes packets from a capture"
-NO_VERDICT = "end the key before it: a key has the values alone, and 'pipapo judge' prints the verdict"
+NO_VERDICT = "leave it out with what follows: a key is only the set and its values, and 'pipapo judge' prints the verdict"
 BLANKS = "write a '.' with blanks around it between fields, as 192.0.2.1 . 80"
 KEY_LINE = "write a line [FAMILY] TABLE SET VALUE . VALUE .., with one value for each field, or 'at' MOMENT, or 'round'"
 MILLISECONDS = "write a number of milliseconds, at most 1000000000000000"
@@ -433,7 +434,7 @@ KEY_MISTAKES = [
     ("ip t p :1024", 8, "':1024' doesn't fit field 1 (inet_service): it is a range", ONE_VALUE),
     ("ip t l 6 . 0x10/0xff", 12, "'0x10/0xff' doesn't fit field 2 (mark): a key has no mask", ONE_VALUE),
     ("inet t p 80", 8, "'p' isn't a set of the script", "did you mean 'ip t p'?"),
-    ("ipv4 t p 80", 6, "'t' can't come here, since 'ipv4' isn't a family", "did you mean 'ip'?"),
+    ("ipv4 t p 80", 6, "'t' can't come here: 'ipv4' isn't a family", "write 'ip' in place of 'ipv4'"),
     ("ip t @p 80", 6, "'@' is an unexpected character", "write the set's name without '@'"),
     ("ip t p @n", 8, "'@' is an unexpected character", ONE_VALUE),
     ("ip t p *", 8, "'*' isn't a value", ONE_VALUE),
@@ -492,8 +493,8 @@ KEY_MISTAKES = [
     ("ip t p 80; ip t p 443", 10, "';' can't follow the last field", IN_A_LINE),
     ("ip t a 10.0.0.1, 10.0.0.2 . 80", 16, "',' can't follow a value", OWN_LINES),
     # words that a key doesn't have
-    ("ip t p 80 at 5", 11, "'at' can't follow the last field", "write the moment in a line of its own before the key, as: at 500"),
-    ("ip t p 80 --at 5", 11, "'--at' can't follow the last field", "write the moment in a line of its own before the key, as: at 500"),
+    ("ip t p 80 at 5", 11, "'at' can't follow the last field", "write the moment in milliseconds in a line of its own before the key, as: at 500"),
+    ("ip t p 80 --at 5", 11, "'--at' can't follow the last field", "write the moment in milliseconds in a line of its own before the key, as: at 500"),
     ("ip t p 80 accept", 11, "'accept' can't follow the last field", NO_VERDICT),
     ("ip t p 80 drop", 11, "'drop' can't follow the last field", NO_VERDICT),
     ("ip t p 80 : accept", 11, "':' can't follow the last field", NO_WORDS),
@@ -532,7 +533,7 @@ KEY_MISTAKES = [
     ("at", 3, "the end of the line isn't a moment", MILLISECONDS),
     ("at=5", 3, "'=' isn't a moment", MILLISECONDS),
     ("at 5s", 4, "'5s' isn't a moment", MILLISECONDS),
-    ("AT 5", 4, "'5' isn't a set of the script", "write a moment with 'at' in lower case, as: at 500"),
+    ("AT 5", 4, "'5' isn't a set of the script", "write 'at' in lower case, and then the moment in milliseconds, as: at 500"),
     ("round 2", 7, "'2' can't follow 'round'", "write 'round' alone in its line"),
     ("10.0.0.1 . 80", 1, "'10.0.0.1' can't come here", KEY_LINE),
     ("ip t", 5, "the end of the line comes too early", "complete the line: [FAMILY] TABLE SET VALUE . VALUE .."),
@@ -581,7 +582,7 @@ GET_MISTAKES = [
     ("p 80", 3, "'80' isn't the name of a set: 'p' is at the place of a table", NAMES_P),
     ("ip saddr 10.0.0.1 tcp dport 80", 10, "'10.0.0.1' " + NO_FIELDS, KEY_FORM),
     ("sleep 1000", 7, "'1000' isn't a set of the script", AT_FIRST),
-    ("ip t", 6, "the end of the text comes too early", "write [FAMILY] TABLE SET VALUE . VALUE .., with one value for each field"),
+    ("ip t", 6, "the end of the text comes before the key is complete", "write [FAMILY] TABLE SET VALUE . VALUE .., with one value for each field"),
     ("ip t @p 80", 6, "'@' is an unexpected character", "write the set's name without '@'"),
     ("ip t p { 80 }", 8, "'{' can't come here: a key has no braces", KEY_FORM),
     ("add element ip t p { 80 }", 5, "'element' " + NO_SET_NAME, KEY_FORM),
@@ -619,7 +620,7 @@ RULES_MISTAKES = [
     ("policy drop\n", 1, 1, "'policy' can't come before the first chain", "write at least one chain before it, as: chain main { in ip t s accept }"),
     (MAIN + "policy drop\npolicy accept\n", 3, 1, "'policy' can't come after the policy", "write one policy, and write it last"),
     ("chain main { policy drop; }\n", 1, 14, "'policy' can't come in a chain", "write the policy after the last chain, in a line of its own"),
-    (MAIN[:-1] + " policy drop\n", 1, 33, "'policy' can't follow here", "write it in a line of its own"),
+    (MAIN[:-1] + " policy drop\n", 1, 33, "'policy' can't follow the '}' of a chain", "write it in a line of its own"),
     (MAIN + "policy reject\n", 2, 8, "'reject' isn't a policy", "write 'policy accept' or 'policy drop'"),
     (MAIN + "policy\n", 2, 7, "the end of the line isn't a policy", "write 'policy accept' or 'policy drop'"),
     (MAIN + "polizy drop\n", 2, 1, "'polizy' can't come here", "did you mean 'policy'?"),
@@ -656,12 +657,12 @@ RULES_MISTAKES = [
     ("chain main { in p accept }\npolicy drop\n", 1, 19, "'accept' isn't the name of a set", "write the set's family, table and name, as: in ip t p"),
     ("chain main { in ip p accept }\npolicy drop\n", 1, 22, "'accept' isn't the name of a set", "write the set's family, table and name, as: in ip t p"),
     ("chain main { in ip t }\npolicy drop\n", 1, 22, "'}' isn't the name of a set", "a test names a set by its family, table and name, as: in ip t s"),
-    ("chain main { in ipv4 t p accept }\npolicy drop\n", 1, 22, "'t' can't come here, since 'ipv4' isn't a family", "did you mean 'ip'?"),
+    ("chain main { in ipv4 t p accept }\npolicy drop\n", 1, 22, "'t' can't come here: 'ipv4' isn't a family", "write 'ip' in place of 'ipv4'"),
     ("chain main { in ip t p, in ip t n accept }\npolicy drop\n", 1, 23, "',' can't come between tests", "write the tests one after another if a packet has to meet all, or a rule for each if one is enough"),
     ("chain main { in ip t p and in ip t n accept }\npolicy drop\n", 1, 24, "'and' can't come between tests", "write the tests one after another if a packet has to meet all, or a rule for each if one is enough"),
     ("chain main { in ip t p && in ip t n accept }\npolicy drop\n", 1, 24, "'&' is an unexpected character", "write the tests one after another if a packet has to meet all, or a rule for each if one is enough"),
     ("chain main { in { ip t p, ip t n } accept }\npolicy drop\n", 1, 17, "'{' can't come here: a test names one set", "write a rule for each set, as: in ip t p accept; in ip t s accept"),
-    ("chain main { out { ip t p, ip t n } drop }\npolicy drop\n", 1, 18, "'{' can't come here: a test names one set", "write a test for each set, one after another, as: out ip t p out ip t s accept"),
+    ("chain main { out { ip t p, ip t n } drop }\npolicy drop\n", 1, 18, "'{' can't come here: a test names one set", "write a test for each set, one after another, as: out ip t p out ip t s drop"),
     ("chain main { in (ip t p) accept }\npolicy drop\n", 1, 17, "'(' is an unexpected character", "leave the brackets out: a test is in or out, and the set's family, table and name, as: in ip t s"),
     ("chain main { in set ip t p accept }\npolicy drop\n", 1, 21, "'ip' isn't the name of a set", "leave out 'set': a test is in or out, and the set's family, table and name, as: in ip t s"),
     ("chain main { tcp dport @p accept }\npolicy drop\n", 1, 14, "'tcp' can't come here: a rule names no fields of a packet", "test a set, by its family, table and name, as: in ip t s accept"),
@@ -684,33 +685,33 @@ RULES_MISTAKES = [
     (MAIN, 2, 1, "the end of the text comes too early", "close each '{', and write 'policy accept' or 'policy drop' at the end"),
 ]
 
-SET_FIRST = "write the set first, and then a selector for each field, as: "
+SET_FIRST = "write the set first, and then a selector for each field"
 PAIR_SELECTOR = "for this field: the set's type is ipv4_addr . inet_service"
 
 # plans for SETS, the line and the column of the bad token, what is wrong, and what to do
 PLAN_MISTAKES = [
     # nft's form of a rule
-    ("ip saddr . dport @a\n", 1, 10, "'.' isn't the name of a set", SET_FIRST + "ip t a ip_saddr . dport"),
-    ("ip saddr . tcp dport @a\n", 1, 10, "'.' isn't the name of a set", SET_FIRST + "ip t a ip_saddr . dport"),
-    ("ip saddr @v\n", 1, 10, "'@' is an unexpected character", SET_FIRST + "ip t v ip6_saddr"),
-    ("tcp dport @p\n", 1, 5, "'dport' isn't the name of a set", SET_FIRST + "ip t p dport"),
-    ("p dport\n", 1, 3, "'dport' isn't the name of a set", SET_FIRST + "ip t p dport"),
-    ("ip t @p dport\n", 1, 6, "'@' is an unexpected character", SET_FIRST + "ip t p dport"),
-    ("ipv4 t p dport\n", 1, 6, "'t' can't come here, since 'ipv4' isn't a family", "did you mean 'ip'?"),
+    ("ip saddr . dport @a\n", 1, 10, "'.' isn't the name of a set", SET_FIRST + ", as: ip t a ip_saddr . dport"),
+    ("ip saddr . tcp dport @a\n", 1, 10, "'.' isn't the name of a set", SET_FIRST + ", as: ip t a ip_saddr . dport"),
+    ("ip saddr @v\n", 1, 10, "'@' is an unexpected character", SET_FIRST + ", as: ip t v ip6_saddr"),
+    ("tcp dport @p\n", 1, 5, "'dport' isn't the name of a set", SET_FIRST + ", as: ip t p dport"),
+    ("p dport\n", 1, 3, "'dport' isn't the name of a set", SET_FIRST + ", as: ip t p dport"),
+    ("ip t @p dport\n", 1, 6, "'@' is an unexpected character", SET_FIRST + ", as: ip t p dport"),
+    ("ipv4 t p dport\n", 1, 6, "'t' can't come here: 'ipv4' isn't a family", "write 'ip' in place of 'ipv4'"),
     ("ip t q dport\n", 1, 6, "'q' isn't a set of the script", "the script's sets are ip t p, ip t a, ip t n, ip t v, ip t l, ip t e"),
     # selectors
-    ("ip t a ip saddr . tcp dport\n", 1, 8, "'ip' isn't a selector", "write ip_saddr in place of 'ip saddr'"),
+    ("ip t a ip saddr . tcp dport\n", 1, 8, "'ip' isn't a selector", "write ip_saddr in place of 'ip saddr', and dport in place of 'tcp dport'"),
     ("ip t a ip_saddr . tcp dport\n", 1, 19, "'tcp' isn't a selector", "write dport in place of 'tcp dport'"),
     ("ip t e ether daddr\n", 1, 8, "'ether' isn't a selector", "write ether_daddr in place of 'ether daddr'"),
     ("ip t a dport . ip_saddr\n", 1, 8, "'dport' doesn't fit the type of this field", "write ip_saddr or ip_daddr " + PAIR_SELECTOR),
     ("ip t a ip_saddr . proto\n", 1, 19, "'proto' doesn't fit the type of this field", "write sport or dport " + PAIR_SELECTOR),
     ("ip t a saddr . dport\n", 1, 8, "'saddr' isn't a selector", "write ip_saddr or ip_daddr " + PAIR_SELECTOR),
     ("ip t a ip_saddr.dport\n", 1, 8, "'ip_saddr.dport' isn't a selector", "write '.' with blanks around it between selectors, as: ip_saddr . dport"),
-    ("ip t a ip.src . tcp.dstport\n", 1, 8, "'ip.src' isn't a selector", "write ip_saddr in place of 'ip.src'"),
+    ("ip t a ip.src . tcp.dstport\n", 1, 8, "'ip.src' isn't a selector", "write ip_saddr in place of 'ip.src', and dport in place of 'tcp.dstport'"),
     ("ip t a ip_saddr . tcp.dstport\n", 1, 19, "'tcp.dstport' isn't a selector", "write dport in place of 'tcp.dstport'"),
     ("ip t e eth.src\n", 1, 8, "'eth.src' isn't a selector", "write ether_saddr in place of 'eth.src'"),
     ("ip t a ip.addr . dport\n", 1, 8, "'ip.addr' isn't a selector", "write ip_saddr or ip_daddr " + PAIR_SELECTOR),
-    ("ip.src . tcp.dstport\n", 1, 8, "'.' isn't the name of a set", SET_FIRST + "ip t s ip_saddr . dport"),
+    ("ip.src . tcp.dstport\n", 1, 8, "'.' isn't the name of a set", SET_FIRST + "; write ip_saddr in place of 'ip.src', and dport in place of 'tcp.dstport'"),
     ("ip t p dprt\n", 1, 8, "'dprt' isn't a selector", "did you mean 'dport'?"),
     ("ip t p DPORT\n", 1, 8, "'DPORT' isn't a selector", "did you mean 'dport'?"),
     ("ip t l proto . mark\n", 1, 16, "'mark' can't come here: no packet of a capture has a mark", "name a set without marks: this set's type is inet_proto . mark"),
@@ -727,7 +728,7 @@ PLAN_MISTAKES = [
     ("ip t p dport\n" * 5, 5, 1, "'ip' begins one line too many", "a plan has 4 lines at most"),
 ]
 
-NO_PACKET = "key:1:1: the words name no packet\nhelp: write [FAMILY] TABLE SET VALUE . VALUE ..; a moment is given before the script, as --at MOMENT\n"
+NO_PACKET = "key:1:1: the words name no packet\nhelp: write [FAMILY] TABLE SET VALUE . VALUE ..; a moment in milliseconds comes before the script, as: --at 500\n"
 
 RUN = "usage: pipapo run SCRIPT KEYS [--threads N] [--keep-going] [--sets]"
 LIST = "usage: pipapo list SCRIPT [--keep-going] [--sets]"
@@ -740,7 +741,7 @@ GET = "usage: pipapo get [--at MOMENT] [--keep-going] [--sets] SCRIPT [FAMILY] T
 COMMANDS = "the commands are get, explain, compare, stat, run, judge, capture, desk, drill, list, dump, sets and help"
 ALONE = "write it alone, or --help alone after a command"
 FROM_NFT = "write the kernel's sets into a file, and list that: nft list ruleset > rules.nft; pipapo list --sets rules.nft"
-FROM_IPSET = "translate the sets into nft's, and list those: ipset save | ipset-translate restore > sets.nft; pipapo list sets.nft"
+FROM_IPSET = "to list the sets of ipset, run: ipset save | ipset-translate restore > sets.nft; pipapo list sets.nft"
 FROM_ELEMENT = "a file's name comes before the set: nft list ruleset > rules.nft; pipapo get --sets rules.nft [FAMILY] TABLE SET VALUE"
 HELP_PAGE = "write 'pipapo help' alone, or a command after it, as: pipapo help run"
 NO_OPTION = "isn't an option: a file's name comes after a command"

@@ -196,7 +196,7 @@ fn said_of_packets(alloc: Global, words: &[u8]) -> Result<Note, Memory> {
     } else {
         (
             b"the words name no packet",
-            b"write [FAMILY] TABLE SET VALUE . VALUE ..; a moment is given before the script, as --at MOMENT",
+            b"write [FAMILY] TABLE SET VALUE . VALUE ..; a moment in milliseconds comes before the script, as: --at 500",
         )
     };
     let mut note = Note::new(alloc);

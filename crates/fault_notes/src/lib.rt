@@ -9,11 +9,8 @@
 //!                          ^^^^^^^^^
 //!     help: write a number from 0 to 65535
 //!
-//! One walk over the tokens before a script's bad token finds what surrounds it: the braces, the
-//! statement, the element so far, and the sets that are declared ([`bad_script_note`]). In the example it
-//! finds the set `ip t p`, its type `inet_service`, and that the token is for field 1. A misspelt word is
-//! compared with the words that may come there. At most a third of its letters may differ: so `intervall`
-//! gives `did you mean 'interval'?`.
+//! `script_advice` says what is wrong with the bad token of a script and what to do ([`bad_script_note`]), and `key_advice`
+//! says it of the texts beside a script ([`bad_text_note`], [`bad_key_note`]). The parts of a note are in `token_notes`.
 //!
 //! After the first bad token of a script the rest is read again, without the statement of that token, or
 //! without the item of a set ([`without_statement`], [`further_note`]). Of a key file the lines after the bad token's are read
@@ -26,9 +23,8 @@
 //! words. A byte of a text or a name that isn't printable ASCII appears as its number, as `\x1b` does. So
 //! no file can move a terminal.
 //!
-//! **Definitions:** `specs/Shown.antt` says how a byte is shown and how a note begins. `Refusals.antt`
-//! has the note on refused changes, and `Hidden.antt` the line on errors that aren't shown. `Source.antt` has the line of a token and its carets, and
-//! `OtherKind.antt` the marks of another kind. `Told.antt` says that one note is printed, or nothing.
+//! **Definitions:** `specs/Refusals.antt` has the note on refused changes, and `Hidden.antt` the line on errors that aren't
+//! shown. `Told.antt` says that one note is printed, or nothing. `token_notes` and `script_advice` have the others.
 //! **Theory:** docs/formats.md, "The standard error".
 #![tactic(auto)]
 

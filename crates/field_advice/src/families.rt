@@ -33,12 +33,16 @@ pub fn family_meant(word: &[u8]) -> Option<&'static [u8]> {
     None
 }
 
-/// Explains a token that can't come at its place, since the word in the place of its family is none.
+/// Explains a token that can't come at its place, since this word before it is in the place of a family and is none.
+///
+/// # Errors
+///
+/// `Memory` if memory runs out.
 pub fn explain_family(said: &mut Explained, word: &[u8]) -> Result<(), Memory> {
     said.wrong.pieces(
         said.alloc,
         &[
-            Piece::Word(b" can't come here, since '"),
+            Piece::Word(b" can't come here: '"),
             Piece::Word(shortened(word)),
             Piece::Word(b"' isn't a family"),
         ],
@@ -51,9 +55,11 @@ pub fn explain_family(said: &mut Explained, word: &[u8]) -> Result<(), Memory> {
         Some(family) => said.help.pieces(
             said.alloc,
             &[
-                Piece::Word(b"did you mean '"),
+                Piece::Word(b"write '"),
                 Piece::Word(family),
-                Piece::Word(b"'?"),
+                Piece::Word(b"' in place of '"),
+                Piece::Word(shortened(word)),
+                Piece::Word(b"'"),
             ],
         ),
         None => said

@@ -11,8 +11,7 @@
 //!
 //! The type of a field is found in the set's item `type` or `typeof` ([`kind_at`]). A name that no set has leads to the set of
 //! a similar name ([`suggest_set`]), and a word in the place of a family to the family that is meant ([`explain_family`]).
-//! Words of nft's rules and of Wireshark lead to the type of the field that they name ([`field_named`],
-//! [`field_in_wireshark`]).
+//! Words of nft's rules and of Wireshark lead to the type or the selector of the field that they name ([`tell_replaced`]).
 //!
 //! The functions are proved to be safe. Tests check the words.
 //! **Theory:** docs/formats.md, "The standard error".
@@ -20,6 +19,7 @@
 
 mod families;
 mod kinds;
+mod replaced;
 mod selectors;
 mod set_names;
 mod set_words;
@@ -27,11 +27,12 @@ mod values;
 
 pub use families::{explain_family, family_meant};
 pub use kinds::{expression_at, grown, is_typeof, kind_at};
-pub use selectors::{Selected, field_in_wireshark, field_named, selector_of, selectors_of};
+pub use replaced::{Wanted, begins_with_replaced, has_further_replaced, tell_replaced, type_meant};
+pub use selectors::{field_named, selector_of, selectors_of};
 pub use set_names::{add_set, explain_unknown, suggest_set};
 pub use set_words::{SetWords, is_same, set_named, words_of};
 pub use values::{
-    Field, NO_MASK, WrongValue, address_kind, explain_fields, explain_port, explain_string,
+    Field, WrongValue, address_kind, explain_fields, explain_port, explain_string,
     explain_wrong_value, first_end, is_joined, is_range, mask_bits, port_of, say_misfit,
     say_no_value, types_of, unquoted, word_of, wrong_value,
 };

@@ -28,7 +28,9 @@ pub fn selector_of(kind: Kind) -> Option<&'static [u8]> {
 /// A field of a packet that two words of nft's rules name: the plan's word for it, and its type.
 #[derive(Clone, Copy)]
 pub struct Selected {
+    /// The plan's word. A mark has none.
     pub selector: &'static [u8],
+    /// The type.
     pub kind: Kind,
 }
 

@@ -9,6 +9,10 @@ use token_notes::{Explained, nearest};
 const MOST_NAMED: usize = 8;
 
 /// Adds a set's family, table and name to what to do.
+///
+/// # Errors
+///
+/// `Memory` if memory runs out.
 pub fn add_set<'x>(
     said: &mut Explained,
     front: &'x [u8],
@@ -71,6 +75,10 @@ fn meant<'a>(
 }
 
 /// Says which of these sets was probably meant by a name, or else which there are.
+///
+/// # Errors
+///
+/// `Memory` if memory runs out.
 pub fn suggest_set<'x>(
     said: &mut Explained,
     name: &[u8],
@@ -94,6 +102,10 @@ fn declared_names(alloc: Global, schema: &Schema) -> Result<Vec<SetWords<'_>>, M
 }
 
 /// Explains the name of a set that the script doesn't declare, in a text beside the script.
+///
+/// # Errors
+///
+/// `Memory` if memory runs out.
 pub fn explain_unknown(said: &mut Explained, schema: &Schema, name: &[u8]) -> Result<(), Memory> {
     said.wrong.say(b" isn't a set of the script")?;
     let names = declared_names(said.alloc, schema)?;

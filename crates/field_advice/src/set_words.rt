@@ -5,8 +5,11 @@ use token_notes::{is_family, word_at};
 /// A set by its three words.
 #[derive(Clone, Copy)]
 pub struct SetWords<'a> {
+    /// Its family's word, as `ip`.
     pub family: &'a [u8],
+    /// Its table's name.
     pub table: &'a [u8],
+    /// Its own name.
     pub name: &'a [u8],
 }
 

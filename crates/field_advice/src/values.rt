@@ -8,9 +8,11 @@ use token_notes::{Explained, first_of, is_number, shortened, without_blanks};
 /// A field of a set, and the word at its place.
 #[derive(Clone, Copy)]
 pub struct Field<'a> {
+    /// The word.
     pub word: &'a [u8],
-    /// Its number, from 0.
+    /// The field's number, from 0.
     pub number: u64,
+    /// The field's type.
     pub kind: Kind,
     /// The set's item `type`.
     pub type_item: &'a [u8],
@@ -54,9 +56,6 @@ pub enum WrongValue<'a> {
     /// The word, or this end of it, is no value of any kind.
     NoValue(&'a [u8]),
 }
-
-/// What to do with a mark that has a mask. As a prefix it would be other marks.
-pub const NO_MASK: &[u8] = b"write each mark that is meant, or a range of them, as 0x10-0x1f";
 
 /// How many bytes of a set's types are shown.
 const OF_TYPES: usize = 250;
@@ -353,6 +352,10 @@ pub fn types_of(type_item: &[u8]) -> &[u8] {
 }
 
 /// Says which field a word doesn't fit.
+///
+/// # Errors
+///
+/// `Memory` if memory runs out.
 pub fn say_misfit(said: &mut Explained, field: Field<'_>) -> Result<(), Memory> {
     said.wrong.pieces(
         said.alloc,
@@ -396,7 +399,10 @@ fn explain_range(said: &mut Explained, kind: Kind, wrong: WrongValue<'_>) -> Res
                 Piece::Word(b" after the '/'"),
             ],
         ),
-        WrongValue::Mask => said.say(b"a mark in a set has no mask", NO_MASK),
+        WrongValue::Mask => said.say(
+            b"a mark in a set has no mask",
+            b"write each mark that is meant",
+        ),
         WrongValue::Protocol(port) => said.tell(
             &[Piece::Word(b"a port is a number alone")],
             &[
@@ -445,6 +451,10 @@ fn explain_range(said: &mut Explained, kind: Kind, wrong: WrongValue<'_>) -> Res
 }
 
 /// Says what is wrong with a port.
+///
+/// # Errors
+///
+/// `Memory` if memory runs out.
 pub fn explain_port(said: &mut Explained, wrong: &[u8], port: u64) -> Result<(), Memory> {
     said.tell(
         &[Piece::Word(wrong)],
@@ -475,12 +485,20 @@ fn explain_other_field(
 }
 
 /// Says that a word is no value of a kind.
+///
+/// # Errors
+///
+/// `Memory` if memory runs out.
 pub fn say_no_value(said: &mut Explained, kind: Kind) -> Result<(), Memory> {
     said.wrong.say(b"it isn't ")?;
     said.say(what(kind), form_of(kind))
 }
 
 /// Says what is wrong with a word at a field's place, after the field.
+///
+/// # Errors
+///
+/// `Memory` if memory runs out.
 pub fn explain_wrong_value(
     said: &mut Explained,
     field: Field<'_>,
@@ -545,6 +563,10 @@ pub fn unquoted(text: &[u8]) -> &[u8] {
 }
 
 /// Explains a string in the place of one value or of several.
+///
+/// # Errors
+///
+/// `Memory` if memory runs out.
 pub fn explain_string(said: &mut Explained, text: &[u8]) -> Result<(), Memory> {
     if text.contains(&b' ') {
         return said.say(
@@ -559,6 +581,10 @@ pub fn explain_string(said: &mut Explained, text: &[u8]) -> Result<(), Memory> {
 }
 
 /// Explains an element or a key that has too few fields, or too many.
+///
+/// # Errors
+///
+/// `Memory` if memory runs out.
 pub fn explain_fields(
     said: &mut Explained,
     wrong: &[u8],

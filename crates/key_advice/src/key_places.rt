@@ -13,7 +13,8 @@ pub(crate) const KEY_FORM: &[u8] =
     b"write the set and the values alone, as: ip filter allowed 192.0.2.1 . 80";
 
 /// What to do with words after a key.
-pub(crate) const VALUES_ALONE: &[u8] = b"end the key before it: a key has the values alone";
+pub(crate) const VALUES_ALONE: &[u8] =
+    b"leave it out with what follows: a key is only the set and its values";
 
 /// The words with which a rule decides on a packet.
 const VERDICTS: [&[u8]; 8] = [
@@ -43,7 +44,7 @@ pub enum KeyPlace {
 
 impl KeyPlace {
     /// What to do with several keys.
-    pub(crate) fn for_several(self) -> &'static [u8] {
+    pub fn for_several(self) -> &'static [u8] {
         match self {
             KeyPlace::File =>
                 b"write each key in a line of its own, as: ip filter allowed 192.0.2.1 . 80",
@@ -55,9 +56,10 @@ impl KeyPlace {
     /// What to do with a moment.
     pub(crate) fn for_moment(self) -> &'static [u8] {
         match self {
-            KeyPlace::File => b"write the moment in a line of its own before the key, as: at 500",
+            KeyPlace::File =>
+                b"write the moment in milliseconds in a line of its own before the key, as: at 500",
             KeyPlace::Get =>
-                b"write the moment before the script, as: pipapo get --at 500 SCRIPT ..",
+                b"write the moment in milliseconds before the script, as: pipapo get --at 500 SCRIPT ..",
         }
     }
 
@@ -75,7 +77,7 @@ impl KeyPlace {
             b"at" | b"--at" => Some(self.for_moment()),
             b"comment" | [b'"', ..] => Some(self.for_comment()),
             _ if is_one_of(word, &VERDICTS) => Some(
-                b"end the key before it: a key has the values alone, and 'pipapo judge' prints the verdict",
+                b"leave it out with what follows: a key is only the set and its values, and 'pipapo judge' prints the verdict",
             ),
             _ if is_one_of(word, &OF_ELEMENTS) => Some(VALUES_ALONE),
             _ => None,
@@ -221,7 +223,7 @@ pub(crate) fn explain_line(
         KeyPlace::File => explain_plainly(said, TextKind::Keys, reason, token),
         KeyPlace::Get => said.say(
             if token.is_empty() {
-                b" comes too early"
+                b" comes before the key is complete"
             } else {
                 b" can't come here"
             },

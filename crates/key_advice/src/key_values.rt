@@ -10,7 +10,7 @@ use text_pieces::Piece;
 use token_notes::{Explained, is_number, is_one_of, shortened, word_at};
 
 /// How a value of a key is written.
-pub(crate) const ONE_VALUE: &[u8] = b"write one value: a packet has one in each field";
+pub(crate) const ONE_VALUE: &[u8] = b"write a single value: a key describes one packet";
 
 /// The longest word that is looked at as a range: two IPv6 addresses of 45 bytes, and `..` between them.
 const LONGEST_RANGE: usize = 92;

@@ -195,7 +195,7 @@ fn for_moment_after(word: &[u8], place: KeyPlace) -> Option<&'static [u8]> {
     match place {
         KeyPlace::Get if is_like_at || is_wait => Some(place.for_moment()),
         KeyPlace::File if is_like_at => {
-            Some(b"write a moment with 'at' in lower case, as: at 500")
+            Some(b"write 'at' in lower case, and then the moment in milliseconds, as: at 500")
         }
         KeyPlace::File if is_wait => {
             Some(b"write 'at' and the moment of the keys after it in milliseconds, as: at 500")

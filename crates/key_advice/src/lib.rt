@@ -6,7 +6,7 @@
 //!     packets:1:19: '192.0.2.0/24' is a prefix
 //!     ip filter allowed 192.0.2.0/24 . 80
 //!                       ^^^^^^^^^^^^
-//!     help: write one address: a packet has one in each field
+//!     help: write a single value: a key describes one packet
 //!
 //! [`explain_in_key`] makes the words after the token and after `help:`, for a line of a key file or for the words of a
 //! `get` ([`KeyPlace`]). [`explain_other_text`] makes them for each text beside a script.

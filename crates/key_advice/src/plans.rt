@@ -2,15 +2,15 @@
 use crate::beside::{Beside, explain_set_beside, set_of_name};
 use crate::keys::{fields_before, is_in_name, type_item};
 use field_advice::{
-    add_set, explain_fields, field_in_wireshark, field_named, kind_at, selector_of, selectors_of,
-    types_of, words_of,
+    Wanted, add_set, begins_with_replaced, explain_fields, kind_at, selector_of, selectors_of,
+    tell_replaced, types_of, words_of,
 };
 use set_model::{Kind, Memory, Schema, SetDecl};
 use text_pieces::Piece;
 use token_forms::{Reason, Tokens};
 use token_notes::{
-    Explained, SELECTORS, TextKind, bytes_of, explain_plainly, explain_reference, is_one_of,
-    last_word, nearest, word_at,
+    Explained, SELECTORS, TextKind, bytes_of, explain_plainly, explain_reference, first_line,
+    is_one_of, last_word, nearest, word_at,
 };
 
 /// The most lines of a plan.
@@ -57,11 +57,21 @@ fn add_line(said: &mut Explained, set: &SetDecl) -> Result<(), Memory> {
     Ok(())
 }
 
-/// Says that the set comes first, with the line for a set of this name.
-fn explain_form(said: &mut Explained, schema: &Schema, name: &[u8]) -> Result<(), Memory> {
+/// Says that the set comes first, with the line for a set of this name, or with the selectors that a line is to have.
+fn explain_form(
+    said: &mut Explained,
+    schema: &Schema,
+    line: &[u8],
+    name: &[u8],
+) -> Result<(), Memory> {
+    let wanted = Wanted::Selectors(b"", 0);
     said.help.say(SET_FIRST)?;
     match set_of_name(schema, name) {
         Some(set) if !has_mark(set) => add_line(said, set),
+        _ if begins_with_replaced(line, wanted) => {
+            said.help.say(b"; ")?;
+            tell_replaced(said, line, wanted)
+        }
         _ => said.help.say(b", as: ip t s ip_saddr . dport"),
     }
 }
@@ -74,11 +84,11 @@ fn explain_set(said: &mut Explained, schema: &Schema, fault: Beside<'_>) -> Resu
         || (set_of_name(schema, before).is_none() && is_one_of(fault.token, &NFT_WORDS))
     {
         said.wrong.say(b" isn't the name of a set")?;
-        return explain_form(said, schema, referred);
+        return explain_form(said, schema, fault.line, referred);
     }
     if set_of_name(schema, before).is_some() {
         said.wrong.say(b" isn't the name of a set")?;
-        return explain_form(said, schema, before);
+        return explain_form(said, schema, fault.line, before);
     }
     explain_set_beside(said, schema, b"", fault)
 }
@@ -90,7 +100,7 @@ fn explain_at_sign(said: &mut Explained, schema: &Schema, fault: Beside<'_>) -> 
         return explain_reference(said);
     }
     said.wrong.say(b" is an unexpected character")?;
-    explain_form(said, schema, name)
+    explain_form(said, schema, fault.line, name)
 }
 
 /// Whether a word is a selector, and another one after a `.`.
@@ -101,27 +111,6 @@ fn is_joined(word: &[u8]) -> bool {
     }
 }
 
-/// Explains one or two words of another program that name a packet's field. The second one may be empty.
-fn tell_selector<'x>(
-    said: &mut Explained,
-    selector: &'x [u8],
-    words: (&'x [u8], &'x [u8]),
-) -> Result<(), Memory> {
-    let (word, next) = words;
-    said.tell(
-        &[Piece::Word(b" isn't a selector")],
-        &[
-            Piece::Word(b"write "),
-            Piece::Word(selector),
-            Piece::Word(b" in place of '"),
-            Piece::Word(word),
-            Piece::Word(if next.is_empty() { b"" } else { b" " }),
-            Piece::Word(next),
-            Piece::Word(b"'"),
-        ],
-    )
-}
-
 /// Explains a word in the place of a selector of this type.
 fn explain_selector(
     said: &mut Explained,
@@ -130,7 +119,8 @@ fn explain_selector(
     fault: Beside<'_>,
 ) -> Result<(), Memory> {
     let word = fault.token;
-    let next = word_at(fault.behind, 1);
+    let line = first_line(fault.behind);
+    let wanted = Wanted::Selectors(type_item, fields_before(fault.front));
     let selectors = [
         Piece::Word(b"write "),
         Piece::Word(selectors_of(kind)),
@@ -157,20 +147,14 @@ fn explain_selector(
             &[Piece::Word(b" doesn't fit the type of this field")],
             &selectors,
         ),
-        _ => match (field_named(word, next), field_in_wireshark(word)) {
-            (Some(field), _) if field.kind == kind => {
-                tell_selector(said, field.selector, (word, next))
-            }
-            (_, Some(field)) if field.kind == kind => {
-                tell_selector(said, field.selector, (word, b""))
-            }
-            _ if word.contains(&b'.') => {
-                said.tell(&[Piece::Word(b" isn't a selector")], &selectors)
-            }
-            _ => match nearest(said.alloc, word, &SELECTORS)? {
-                Some(other) => said.ask(b" isn't a selector", other),
-                None => said.tell(&[Piece::Word(b" isn't a selector")], &selectors),
-            },
+        _ if begins_with_replaced(line, wanted) => {
+            said.wrong.say(b" isn't a selector")?;
+            tell_replaced(said, line, wanted)
+        }
+        _ if word.contains(&b'.') => said.tell(&[Piece::Word(b" isn't a selector")], &selectors),
+        _ => match nearest(said.alloc, word, &SELECTORS)? {
+            Some(other) => said.ask(b" isn't a selector", other),
+            None => said.tell(&[Piece::Word(b" isn't a selector")], &selectors),
         },
     }
 }

@@ -172,15 +172,43 @@ fn explain_in_rule(said: &mut Explained, token: &[u8]) -> Result<(), Memory> {
     }
 }
 
+/// The act of a rule whose last words are these: the act itself, and the name of a chain after `jump`.
+fn act_after(behind: &[u8]) -> (&[u8], &[u8]) {
+    let mut is_jump = false;
+    for token in Tokens::new(behind) {
+        let bytes = bytes_of(behind, token);
+        if is_jump {
+            return (b"jump ", shortened(bytes));
+        }
+        if is_one_of(bytes, &PLAIN_ACTS) {
+            return (bytes, b"");
+        }
+        if is_separator(token.kind, bytes) {
+            return (b"accept", b"");
+        }
+        is_jump = bytes == b"jump".as_slice();
+    }
+    (b"accept", b"")
+}
+
 /// Explains a brace after a test's `in` or `out`, which may begin a list of sets.
-fn explain_several(said: &mut Explained, part: &[u8]) -> Result<(), Memory> {
-    said.say(
-        b" can't come here: a test names one set",
-        if last_word(part) == b"in".as_slice() {
-            b"write a rule for each set, as: in ip t p accept; in ip t s accept"
-        } else {
-            b"write a test for each set, one after another, as: out ip t p out ip t s accept"
-        },
+fn explain_several(said: &mut Explained, part: &[u8], behind: &[u8]) -> Result<(), Memory> {
+    let (act, chain) = act_after(behind);
+    let is_in = last_word(part) == b"in".as_slice();
+    said.tell(
+        &[Piece::Word(b" can't come here: a test names one set")],
+        &[
+            Piece::Word(if is_in {
+                b"write a rule for each set, as: in ip t p "
+            } else {
+                b"write a test for each set, one after another, as: out ip t p out ip t s "
+            }),
+            Piece::Word(act),
+            Piece::Word(chain),
+            Piece::Word(if is_in { b"; in ip t s " } else { b"" }),
+            Piece::Word(if is_in { act } else { b"" }),
+            Piece::Word(if is_in { chain } else { b"" }),
+        ],
     )
 }
 
@@ -222,7 +250,9 @@ fn explain_in_chain(said: &mut Explained, fault: Beside<'_>) -> Result<(), Memor
         ),
         _ if last_word(part) == b"jump".as_slice() => explain_jump(said, fault),
         _ if is_end(fault.token) && !part.is_empty() => explain_rule_end(said, part),
-        b"{" if is_one_of(last_word(part), &[b"in", b"out"]) => explain_several(said, part),
+        b"{" if is_one_of(last_word(part), &[b"in", b"out"]) => {
+            explain_several(said, part, fault.behind)
+        }
         word if has_act(part) && is_one_of(word, &RULE_WORDS) => {
             explain_after_act(
                 said,
@@ -316,7 +346,10 @@ fn explain_place(said: &mut Explained, fault: Beside<'_>) -> Result<(), Memory> 
         );
     }
     if without_blanks_behind(before).ends_with(b"}") && fault.token != b"}".as_slice() {
-        return said.say(b" can't follow here", b"write it in a line of its own");
+        return said.say(
+            b" can't follow the '}' of a chain",
+            b"write it in a line of its own",
+        );
     }
     explain_outside(said, count_of(before, b"chain"), fault.token)
 }

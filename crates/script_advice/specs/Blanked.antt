@@ -1,5 +1,5 @@
 -- A text of which a part is blanked out.
-use Rattle.std.specs.Prelude.{ℕ, Bool, not, ◌&&◌, ◌==◌, if◌then◌else◌, List, map, nat_le, nat_lt}
+use Rattle.std.specs.Prelude.{ℕ, not, ◌&&◌, ◌==◌, if◌then◌else◌, List, map, nat_le, nat_lt}
 use Rattle.std.specs.List.{enumerate_from}
 
 -- a byte with its place: a blank if the place is in the part, and else itself; a line feed stays

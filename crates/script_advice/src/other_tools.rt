@@ -46,11 +46,11 @@ pub(crate) fn explain_other_tool(said: &mut Explained, tool: OtherTool) -> Resul
     match tool {
         OtherTool::Ipset => said.say(
             b" can't follow 'create': this looks like a file of ipset",
-            b"translate the sets into nft's, and list those: ipset-translate restore < FILE > sets.nft; pipapo list sets.nft",
+            b"to list its sets, run: ipset-translate restore < FILE > sets.nft; pipapo list sets.nft",
         ),
         OtherTool::IptablesSave => said.say(
             b" can't begin a statement: this looks like a file of iptables-save, which has no sets",
-            b"translate the sets that its rules name, and list those: ipset save | ipset-translate restore > sets.nft; pipapo list sets.nft",
+            b"its sets are kept by ipset; to list them, run: ipset save | ipset-translate restore > sets.nft; pipapo list sets.nft",
         ),
     }
 }

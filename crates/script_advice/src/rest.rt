@@ -1,5 +1,5 @@
-//! Blanks a refused statement, or a refused item of a set, out of a script, and a refused line out of a key file, so
-//! that the rest can be read for further errors.
+//! Blanks the refused part of a text out, so that the rest can be read for further errors. It is a statement or an item of
+//! a set in a script, and a line in a key file.
 ghost use Rattle.std.specs.Prelude.{◌≡◌, ℕ, IfOk};
 ghost use Rattle.script_advice.specs.Blanked.{blanked};
 

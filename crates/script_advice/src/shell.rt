@@ -1,4 +1,5 @@
 //! Explains what a script has from a shell: commands, backslashes and quotes.
+use crate::around::Level;
 use crate::fault::Fault;
 use set_model::Memory;
 use token_forms::Reason;
@@ -70,7 +71,11 @@ pub(crate) fn explain_end(
 ) -> Result<(), Memory> {
     let is_joined = is_joined(fault.around.before(fault.at));
     said.say(
-        b" can't follow here",
+        if fault.around.level == Level::Set {
+            b" comes after the end of the item"
+        } else {
+            b" comes after the end of the statement"
+        },
         if is_joined {
             b"leave out the '\\' at the end of the line before, which joins the two lines"
         } else {

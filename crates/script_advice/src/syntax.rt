@@ -1,6 +1,6 @@
 //! Explains a token that can't come at its place of a script: what may come there.
 use crate::around::Level;
-use crate::expressions::is_expression_word;
+use crate::expressions::{explain_unfinished, is_expression_word, lacks_words};
 use crate::fault::Fault;
 use crate::lists::explain_in_list;
 use crate::sets::{SET_NAME, explain_no_name};
@@ -8,12 +8,13 @@ use crate::shell::{explain_end, for_command, names_a_shell};
 use crate::times::{explain_time, explain_unit, is_apart};
 use crate::types::TYPES;
 use crate::values::explain_all;
-use field_advice::{explain_family, family_meant, set_named};
+use field_advice::{add_set, explain_family, family_meant, set_named};
 use set_model::Memory;
 use text_pieces::Piece;
 use token_forms::{Reason, is_a_name};
 use token_notes::{
-    Explained, SIZE, TextKind, explain_plainly, is_family, is_one_of, last_word, shortened, word_at,
+    Explained, SIZE, TextKind, after_words, explain_plainly, is_family, is_one_of, last_word,
+    shortened, without_blanks, word_at,
 };
 
 /// The words that begin a statement.
@@ -42,6 +43,9 @@ const END_STATEMENT: &[u8] = b"end the statement before it, with ';' or a new li
 
 const END_ITEM: &[u8] = b"end the item before it, with ';' or a new line";
 
+/// The longest values of a line that a note repeats.
+const LONGEST_VALUES: usize = 100;
+
 /// What to do with a token after a statement that is whole.
 fn for_extra(token: &[u8]) -> &'static [u8] {
     match token {
@@ -53,14 +57,23 @@ fn for_extra(token: &[u8]) -> &'static [u8] {
     }
 }
 
+/// What to do with a token after the name with which a statement ends.
+fn for_name_end(token: &[u8], help: &'static [u8]) -> &'static [u8] {
+    if is_one_of(token, &STATEMENTS) {
+        END_STATEMENT
+    } else {
+        help
+    }
+}
+
 /// What to do in place of a word that begins a statement in other languages.
 fn for_other_verb(word: &[u8]) -> Option<&'static [u8]> {
     match word {
         b"list" | b"show" | b"print" => {
-            Some(b"leave it out: 'pipapo list FILE' prints the sets of a script")
+            Some(b"leave the statement out: 'pipapo list FILE' prints the sets of a script")
         }
         b"get" | b"test" | b"lookup" => {
-            Some(b"leave it out: 'pipapo get FILE ip t p 80' looks a key up")
+            Some(b"leave the statement out: 'pipapo get FILE ip t p 80' looks a key up")
         }
         b"update" | b"replace" => Some(
             b"write 'add' in place of it; to change an element, write 'delete element' and then 'add element'",
@@ -72,6 +85,29 @@ fn for_other_verb(word: &[u8]) -> Option<&'static [u8]> {
         }
         _ => None,
     }
+}
+
+/// Explains a line that has no statement, but a set and values, as a key file has it.
+fn explain_key_line(said: &mut Explained, fault: Fault<'_>) -> Result<(), Memory> {
+    let line = fault.around.rest_from(fault.at);
+    let place = set_named(line, 0);
+    let values = without_blanks(after_words(line, 3));
+    said.wrong.say(b" can't begin a statement")?;
+    if values.is_empty() || values.contains(&b'{') || values.len() > LONGEST_VALUES {
+        return said.help.say(
+            b"to add an element, write: add element [FAMILY] TABLE SET { VALUES }; a line of a key file isn't part of a script",
+        );
+    }
+    add_set(said, b"to add it, write: add element ", place, b" { ")?;
+    said.tell(
+        &[],
+        &[
+            Piece::Word(values),
+            Piece::Word(
+                b" }; to look it up, write the line into a key file, which 'run' takes after the script",
+            ),
+        ],
+    )
 }
 
 /// Explains the first token of a statement.
@@ -98,12 +134,9 @@ fn explain_first(said: &mut Explained, fault: Fault<'_>) -> Result<(), Memory> {
         }
         b"begin" | b"start" => said.say(
             b" can't begin a statement",
-            b"leave it out: a transaction begins by itself, and ends with 'commit' or 'abort'",
+            b"leave the statement out: a transaction begins by itself, and ends with 'commit' or 'abort'",
         ),
-        word if is_family(word) => said.say(
-            b" can't begin a statement",
-            b"to add it, write: add element ip t s { 80 }; to look it up, write the line into a key file, which 'run' takes after the script",
-        ),
+        word if is_family(word) => explain_key_line(said, fault),
         word if for_other_verb(word).is_some() => said.say(
             b" can't begin a statement",
             for_other_verb(word).unwrap_or(b""),
@@ -135,6 +168,18 @@ fn for_brace(fault: Fault<'_>, help: &'static [u8]) -> &'static [u8] {
     }
 }
 
+/// What to do with a verb on elements that something else follows.
+fn for_verb(verb: &[u8]) -> &'static [u8] {
+    match verb {
+        b"create" =>
+            b"write 'element', the set, and the elements in braces, as: create element ip t p { 80, 443 }",
+        b"delete" =>
+            b"write 'delete element' to remove some elements, or 'flush set' to remove all of a set",
+        _ =>
+            b"write 'destroy element' to remove some elements, or 'flush set' to remove all of a set",
+    }
+}
+
 /// Explains the second token of a statement.
 fn explain_second(said: &mut Explained, fault: Fault<'_>) -> Result<(), Memory> {
     let word = fault.token;
@@ -155,7 +200,7 @@ fn explain_second(said: &mut Explained, fault: Fault<'_>) -> Result<(), Memory> 
         ),
         b"flush" if word == b"table".as_slice() => said.say(
             b" can't follow 'flush'",
-            b"leave it out: it removes rules, and a script has none",
+            b"leave the statement out: it removes rules, and a script has none",
         ),
         b"flush" if word == b"element".as_slice() => said.say(
             b" can't follow 'flush'",
@@ -182,7 +227,7 @@ fn explain_second(said: &mut Explained, fault: Fault<'_>) -> Result<(), Memory> 
             },
             word,
             &[b"element"],
-            b"create, delete and destroy are followed by element",
+            for_verb(verb),
         ),
     }
 }
@@ -225,7 +270,10 @@ fn explain_place(said: &mut Explained, fault: Fault<'_>) -> Result<(), Memory> {
         return explain_end(
             said,
             fault,
-            b"'add table' ends with the table's name: write ';' or a new line after it",
+            for_name_end(
+                fault.token,
+                b"leave it out: 'add table' ends with the table's name",
+            ),
         );
     }
     if is_block {
@@ -239,13 +287,16 @@ fn explain_place(said: &mut Explained, fault: Fault<'_>) -> Result<(), Memory> {
     }
     match word_at(part, 0) {
         b"flush" if fault.token == b"{".as_slice() => said.say(
-            b" can't follow here",
+            b" can't follow the set's name",
             b"'flush set' removes all elements: write 'delete element' to remove some",
         ),
         b"flush" => explain_end(
             said,
             fault,
-            b"'flush set' ends with the set's name: write ';' or a new line after it",
+            for_name_end(
+                fault.token,
+                b"leave it out: 'flush set' ends with the set's name",
+            ),
         ),
         _ if word_at(part, 1) == b"element".as_slice() => said.say(
             b" can't follow the set's name",
@@ -275,11 +326,11 @@ pub(crate) fn explain_left_out(said: &mut Explained, fault: Fault<'_>) -> Result
         ),
         b"set" => said.say(
             b" can't be deleted",
-            b"leave it out, or write 'flush set' to remove the elements of a set that is declared",
+            b"leave the statement out, or write 'flush set' to remove the elements of a set that is declared",
         ),
         b"table" => said.say(
             b" can't be deleted",
-            b"leave it out: a script begins without sets; later 'flush set' removes a set's elements",
+            b"leave the statement out: a script begins without sets; later 'flush set' removes a set's elements",
         ),
         word => explain_plainly(said, TextKind::Script, Reason::LeftOut, word),
     }
@@ -440,6 +491,7 @@ fn explain_in_item(said: &mut Explained, fault: Fault<'_>) -> Result<(), Memory>
             b" can't follow a type",
             b"write ' . ' between types",
         ),
+        b"typeof" if lacks_words(part) => explain_unfinished(said, part),
         b"typeof" if is_one_of(word, &[b",", b"/"]) || is_expression_word(word) => said.say(
             b" can't follow a whole expression",
             b"write ' . ' between expressions",

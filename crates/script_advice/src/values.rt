@@ -2,8 +2,8 @@
 use crate::fault::Fault;
 use addr_text::read_number;
 use field_advice::{
-    Field, NO_MASK, WrongValue, explain_port, explain_string, explain_wrong_value, kind_at,
-    port_of, say_misfit, unquoted, wrong_value,
+    Field, WrongValue, explain_port, explain_string, explain_wrong_value, kind_at, port_of,
+    say_misfit, unquoted, wrong_value,
 };
 use set_model::{Kind, Memory};
 use text_pieces::Piece;
@@ -24,6 +24,11 @@ pub(crate) fn field_at<'a>(fault: Fault<'a>) -> Option<Field<'a>> {
     })
 }
 
+/// Whether the set has the flag `interval`.
+fn has_intervals(fault: Fault<'_>) -> bool {
+    count_of(fault.set().item(b"flags"), b"interval") > 0
+}
+
 /// Explains a word at the place of a value or an interval.
 pub(crate) fn explain_value(said: &mut Explained, fault: Fault<'_>) -> Result<(), Memory> {
     let Some(field) = field_at(fault) else {
@@ -41,9 +46,10 @@ pub(crate) fn explain_value(said: &mut Explained, fault: Fault<'_>) -> Result<()
                 .say(b" is a range, and the set has single values")?;
             explain_flag(said, fault, b"interval")
         }
-        WrongValue::Several if field.kind == Kind::Mark => {
-            said.say(b" is a prefix, and the set has single values", NO_MASK)
-        }
+        WrongValue::Several if field.kind == Kind::Mark => said.say(
+            b" is a prefix, and the set has single values",
+            b"write each mark that is meant",
+        ),
         WrongValue::Several => {
             said.wrong
                 .say(b" is a prefix, and the set has single values")?;
@@ -51,7 +57,11 @@ pub(crate) fn explain_value(said: &mut Explained, fault: Fault<'_>) -> Result<()
         }
         wrong => {
             say_misfit(said, field)?;
-            explain_wrong_value(said, field, wrong)
+            explain_wrong_value(said, field, wrong)?;
+            if matches!(wrong, WrongValue::Mask) && has_intervals(fault) {
+                return said.help.say(b", or a range of them, as 0x10-0x1f");
+            }
+            Ok(())
         }
     }
 }
@@ -87,7 +97,7 @@ fn explain_every(
     wrong: &[u8],
 ) -> Result<(), Memory> {
     said.say(wrong, all_of(kind))?;
-    if count_of(fault.set().item(b"flags"), b"interval") > 0 {
+    if has_intervals(fault) {
         return Ok(());
     }
     said.help.say(b", and ")?;
@@ -97,12 +107,12 @@ fn explain_every(
 /// All values of a kind, as an interval.
 fn all_of(kind: Kind) -> &'static [u8] {
     match kind {
-        Kind::Ipv4 => b"write all addresses as 0.0.0.0/0",
-        Kind::Ipv6 => b"write all addresses as ::/0",
-        Kind::Ether => b"write all addresses as 00:00:00:00:00:00-ff:ff:ff:ff:ff:ff",
-        Kind::Proto => b"write all protocols as 0-255",
-        Kind::Service => b"write all ports as 0-65535",
-        Kind::Mark => b"write all marks as 0-4294967295",
+        Kind::Ipv4 => b"to match all addresses, write 0.0.0.0/0",
+        Kind::Ipv6 => b"to match all addresses, write ::/0",
+        Kind::Ether => b"to match all addresses, write 00:00:00:00:00:00-ff:ff:ff:ff:ff:ff",
+        Kind::Proto => b"to match all protocols, write 0-255",
+        Kind::Service => b"to match all ports, write 0-65535",
+        Kind::Mark => b"to match all marks, write 0-4294967295",
     }
 }
 
@@ -112,7 +122,7 @@ pub(crate) fn explain_all(said: &mut Explained, fault: Fault<'_>) -> Result<(), 
         Some(field) => explain_every(said, fault, field.kind, b" isn't supported"),
         None => said.say(
             b" isn't supported",
-            b"write all values as a prefix or a range, as 0.0.0.0/0",
+            b"to match all values, write a prefix or a range, as 0.0.0.0/0",
         ),
     }
 }

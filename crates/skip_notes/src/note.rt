@@ -4,10 +4,10 @@ ghost use Rattle.token_notes.specs.Shown.{IsNoteByte};
 ghost use Rattle.skip_notes.specs.Skips.{skip_line, skips_text};
 
 use crate::line::append_said;
-use token_notes::Note;
 use ruleset_sets::Skipped;
 use set_model::Memory;
 use std::alloc::Global;
+use token_notes::Note;
 
 /// A text for a person, whole lines. It has only printable ASCII and line feeds.
 #[derive(Drop)]

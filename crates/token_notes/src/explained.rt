@@ -9,6 +9,7 @@ use text_pieces::{Piece, append_pieces};
 /// What is wrong with a token or a word, and what to do.
 #[derive(Drop)]
 pub struct Explained {
+    /// Where the texts get their memory.
     pub alloc: Global,
     /// What is wrong, in one line without its end.
     pub wrong: Note,
@@ -18,6 +19,10 @@ pub struct Explained {
 
 impl Note {
     /// Adds pieces of text, one after another.
+    ///
+    /// # Errors
+    ///
+    /// `Memory` if memory runs out.
     pub fn pieces(&mut self, alloc: Global, pieces: &[Piece]) -> Result<(), Memory> {
         let mut text = Vec::new(alloc);
         append_pieces(pieces, &mut text)?;
@@ -56,6 +61,10 @@ impl Explained {
     }
 
     /// Says what is wrong, and which word was probably meant.
+    ///
+    /// # Errors
+    ///
+    /// `Memory` if memory runs out.
     pub fn ask(&mut self, wrong: &[u8], meant: &[u8]) -> Result<(), Memory> {
         self.tell(
             &[Piece::Word(wrong)],

@@ -73,7 +73,7 @@ fn for_left_out(word: &[u8]) -> &'static [u8] {
             return *help;
         }
     }
-    b"write all values as a prefix or a range, as 0.0.0.0/0"
+    b"to match all values, write a prefix or a range, as 0.0.0.0/0"
 }
 
 /// How long a key is at most.
@@ -127,6 +127,10 @@ fn for_statement(kind: TextKind) -> &'static [u8] {
 }
 
 /// Explains a `@` in front of a set's name.
+///
+/// # Errors
+///
+/// `Memory` if memory runs out.
 pub fn explain_reference(said: &mut Explained) -> Result<(), Memory> {
     said.say(
         b" is an unexpected character",
@@ -135,11 +139,19 @@ pub fn explain_reference(said: &mut Explained) -> Result<(), Memory> {
 }
 
 /// Explains a token that begins a comment in other languages.
+///
+/// # Errors
+///
+/// `Memory` if memory runs out.
 pub fn explain_slashes(said: &mut Explained) -> Result<(), Memory> {
     said.say(b" doesn't begin a comment", b"begin a comment with '#'")
 }
 
 /// Explains such a token in a list of elements. A comment with `#` would hide the closing brace.
+///
+/// # Errors
+///
+/// `Memory` if memory runs out.
 pub fn explain_slashes_in_list(said: &mut Explained) -> Result<(), Memory> {
     said.say(
         b" doesn't begin a comment",
@@ -153,6 +165,10 @@ pub fn is_slashes(token: &[u8]) -> bool {
 }
 
 /// Explains a bad token by its reason.
+///
+/// # Errors
+///
+/// `Memory` if memory runs out.
 pub fn explain_plainly(
     said: &mut Explained,
     kind: TextKind,

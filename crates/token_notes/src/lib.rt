@@ -51,5 +51,6 @@ pub use near::{is_same_in_lower_case, nearest};
 pub use note::Note;
 pub use source::{Cut, cut_at, first_line, first_of, last_line, shortened};
 pub use words::{
-    bytes_of, count_of, is_number, is_one_of, is_separator, item_of, last_word, last_words, word_at,
+    after_words, bytes_of, count_of, is_number, is_one_of, is_separator, item_of, last_word,
+    last_words, word_at,
 };

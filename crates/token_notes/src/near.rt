@@ -31,6 +31,10 @@ fn distance(alloc: Global, word: &[u8], other: &[u8]) -> Result<usize, Memory> {
 }
 
 /// The word with the fewest wrong letters, if at most a third of the letters of the longer one is wrong.
+///
+/// # Errors
+///
+/// `Memory` if memory runs out.
 pub fn nearest<'a>(
     alloc: Global,
     word: &[u8],

@@ -84,6 +84,10 @@ impl Note {
     }
 
     /// Adds a number in decimal.
+    ///
+    /// # Errors
+    ///
+    /// `Memory` if memory runs out.
     pub fn number(&mut self, n: u64) -> Result<(), Memory>
         ensures { OnOk result (self.new.bytes.items ≡ self.old.bytes.items ++ shown (decimal n)) }
     {
@@ -92,6 +96,10 @@ impl Note {
     }
 
     /// Adds the name of a text, and a place in it.
+    ///
+    /// # Errors
+    ///
+    /// `Memory` if memory runs out.
     #[tactic(auto, using(crate::proofs::ShownLaws::shown_both))]
     pub fn place(&mut self, name: &[u8], line: u64, column: u64) -> Result<(), Memory>
         ensures { OnOk result (self.new.bytes.items ≡ self.old.bytes.items ++ place_text name.now line column) }
@@ -105,6 +113,10 @@ impl Note {
     }
 
     /// Adds the name of a file, and a byte's place in it.
+    ///
+    /// # Errors
+    ///
+    /// `Memory` if memory runs out.
     #[tactic(auto, using(crate::proofs::ShownLaws::shown_both))]
     pub fn byte_place(&mut self, name: &[u8], byte: u64) -> Result<(), Memory>
         ensures { OnOk result (self.new.bytes.items ≡ self.old.bytes.items ++ byte_text name.now byte) }
@@ -116,6 +128,10 @@ impl Note {
     }
 
     /// Adds the name of a file.
+    ///
+    /// # Errors
+    ///
+    /// `Memory` if memory runs out.
     #[tactic(auto, using(crate::proofs::ShownLaws::shown_both))]
     pub fn file(&mut self, name: &[u8]) -> Result<(), Memory>
         ensures { OnOk result (self.new.bytes.items ≡ self.old.bytes.items ++ name_text name.now) }
@@ -132,6 +148,10 @@ impl Note {
     }
 
     /// Ends a line.
+    ///
+    /// # Errors
+    ///
+    /// `Memory` if memory runs out.
     pub fn end_line(&mut self) -> Result<(), Memory>
         ensures { OnOk result (self.new.bytes.items ≡ self.old.bytes.items ++ 10 ∷ []) }
     {

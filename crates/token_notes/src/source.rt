@@ -16,11 +16,13 @@ const BEHIND: usize = 40;
 /// A line of a text with a token in it.
 #[derive(Clone, Copy)]
 pub struct Cut<'a> {
-    /// The whole line, and its bytes before the token.
+    /// The whole line.
     pub line: &'a [u8],
+    /// The line before the token.
     pub front: &'a [u8],
-    /// The bytes of the token on the line, and those after it.
+    /// The bytes of the token on the line.
     pub token: &'a [u8],
+    /// The line after the token.
     pub behind: &'a [u8],
 }
 
@@ -202,6 +204,10 @@ impl Note {
     }
 
     /// Adds the line of a token, and a caret under each of its bytes.
+    ///
+    /// # Errors
+    ///
+    /// `Memory` if memory runs out.
     pub fn source_line(&mut self, cut: Cut<'_>) -> Result<(), Memory>
         ensures { OnOk result (self.new.bytes.items ≡ self.old.bytes.items ++ both_lines cut.entry.front.now cut.entry.token.now cut.entry.behind.now) }
     {

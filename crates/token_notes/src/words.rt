@@ -27,6 +27,21 @@ pub fn word_at(text: &[u8], number: u64) -> &[u8] {
     b""
 }
 
+/// The text after so many tokens. Line feeds aren't counted.
+pub fn after_words(text: &[u8], number: u64) -> &[u8] {
+    let mut seen = 0u64;
+    for token in Tokens::new(text) {
+        if matches!(token.kind, TokenKind::Break) {
+            continue;
+        }
+        seen = seen.saturating_add(1);
+        if seen == number {
+            return text.get(token.to as usize..).unwrap_or(b"");
+        }
+    }
+    b""
+}
+
 /// The last two tokens of a text that are no line feeds. A token that is missing is empty.
 pub fn last_words(text: &[u8]) -> (&[u8], &[u8]) {
     let none = Token {

@@ -3,9 +3,9 @@ use crate::fault::{NumberOf, WordFault};
 use crate::form::{MOST_NAMES, OPTIONS, form_of, long_option, name_at, takes};
 use crate::habits::{EarlyOption, FileOption, is_name_option};
 use command_words::Verb;
-use token_notes::Explained;
 use set_model::Memory;
 use text_pieces::Piece;
+use token_notes::Explained;
 
 /// The words at the place of a command.
 const COMMANDS: [&[u8]; 13] = [
@@ -22,7 +22,7 @@ pub(crate) const FROM_NFT: &[u8] =
 
 /// How the sets of ipset come into a file, and what lists them. `nft list ruleset` hasn't these sets.
 const FROM_IPSET: &[u8] =
-    b"translate the sets into nft's, and list those: ipset save | ipset-translate restore > sets.nft; pipapo list sets.nft";
+    b"to list the sets of ipset, run: ipset save | ipset-translate restore > sets.nft; pipapo list sets.nft";
 
 /// How the sets of another program come into a file.
 fn from_program(word: &str) -> &'static [u8] {

@@ -30,10 +30,10 @@ ghost use Rattle.token_notes.specs.Shown.{Begins, name_text};
 
 use crate::explained::explain;
 use crate::fault::fault_of;
-use token_notes::{Explained, Note, explained_note};
 pub use missing::unread_note;
 use set_model::Memory;
 use std::alloc::Global;
+use token_notes::{Explained, Note, explained_note};
 
 /// The note on words that are no command: what is wrong with the first word that doesn't fit, or what is
 /// missing after the last one, and what to do.

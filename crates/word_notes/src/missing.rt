@@ -4,10 +4,10 @@ ghost use Rattle.token_notes.specs.Shown.{Begins, name_text};
 
 use crate::explained::FROM_NFT;
 use crate::habits::{is_family, is_noun};
-use token_notes::{Explained, Note, explained_note, read_fault_note};
 use pip_base::FaultKind;
 use set_model::Memory;
 use std::alloc::Global;
+use token_notes::{Explained, Note, explained_note, read_fault_note};
 
 /// What to do in place of naming a file that doesn't exist, if its name is a word of nft or `help`.
 fn instead_of(name: &str) -> Option<&'static [u8]> {
