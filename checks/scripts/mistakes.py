@@ -40,10 +40,10 @@ ALONE_LINE = "and write ';' without '\\', as: add set ip t p { type mark; }"
 NO_QUOTES = "leave out the quotes: only comments have them"
 TIME = "write seconds, as 90, or parts from days to milliseconds, as 1d2h3m4s500ms"
 
-ONE_BY_ONE = "write each mark that is meant"
+ONE_BY_ONE = "write an element for each mark that is meant"
 MARKS = ONE_BY_ONE + ", or a range of them, as 0x10-0x1f"
-IPTABLES = "can't begin a statement: this looks like a file of iptables-save, which has no sets"
-FROM_RULES = "its sets are kept by ipset; to list them, run: ipset save | ipset-translate restore > sets.nft; pipapo list sets.nft"
+IPTABLES = "can't begin a statement: this looks like a file of iptables-save, which only names sets"
+FROM_RULES = "the sets are in ipset; to list them, run: ipset save | ipset-translate restore > sets.nft; pipapo list sets.nft"
 FAMILIES = "the families are ip, ip6, inet, arp, bridge and netdev"
 EXTRA = "leave it out, or begin a new line with it"
 
@@ -94,7 +94,7 @@ MISTAKES = [
     (add("a", "0/0 . 80"), 2, 22, "'0/0' isn't a value", "to match all addresses, write 0.0.0.0/0", "taken"),
     (declare("type ipv4_addr; elements = { any }"), 2, 47, "'any' isn't a value", "to match all addresses, write 0.0.0.0/0, and declare the set with 'flags interval'", "Could not resolve"),
     (declare("type ipv4_addr; flags timeout; elements = { 10.0.0.0/8 }"), 2, 62, "'10.0.0.0/8' is a prefix, and the set has single values", "declare the set with 'flags timeout, interval'", "You must add 'flags interval' to your set declaration if you want to add prefix elements"),
-    (add("v", "fe80::1%eth0"), 2, 29, "'%' is an unexpected character", "leave it out with what follows: an address has no interface", "syntax error, unexpected junk, expecting comma or '}'"),
+    (add("v", "fe80::1%eth0"), 2, 29, "'%' is an unexpected character", "leave it out, and the interface after it: an address has none", "syntax error, unexpected junk, expecting comma or '}'"),
     (add("p", "10-web"), 2, 22, "'10-web' doesn't fit field 1 (inet_service): 'web' isn't a port", PORT, "Could not resolve"),
     # elements
     (add("p", "80 443"), 2, 25, "'443' can't follow an element", COMMA, "syntax error, unexpected number, expecting comma or '}'"),
@@ -221,7 +221,7 @@ MISTAKES = [
     ("create set ip t s { type mark; }\n", 1, 8, "'set' can't follow 'create'", "write 'add set' to declare a set", "No such file or directory"),
     ("create table ip t\n", 1, 8, "'table' can't follow 'create'", "write 'add table' to declare a table", "taken"),
     ("delete elements ip t p { 80 }\n", 1, 8, "'elements' can't follow 'delete'", "did you mean 'element'?", "syntax error, unexpected elements"),
-    ("destroy everything\n", 1, 9, "'everything' can't follow 'destroy'", "write 'destroy element' to remove some elements, or 'flush set' to remove all of a set", "syntax error, unexpected newline"),
+    ("destroy everything\n", 1, 9, "'everything' can't follow 'destroy'", "write 'destroy element' to remove some elements, or 'flush set' to remove all elements of a set", "syntax error, unexpected newline"),
     ("add p 80\n", 1, 5, "'p' can't follow 'add'", "write 'element', the set, and the elements in braces, as: add element ip t p { 80, 443 }", "syntax error, unexpected number, expecting string"),
     # files of other programs
     ("create s hash:net family inet hashsize 1024 maxelem 65536\n", 1, 8, "'s' can't follow 'create': this looks like a file of ipset", "to list its sets, run: ipset-translate restore < FILE > sets.nft; pipapo list sets.nft", "syntax error, unexpected string"),
@@ -398,13 +398,13 @@ ONE_VALUE = "write a single value: a key describes one packet"
 IN_A_LINE = "write each key in a line of its own; the set's type is inet_service"
 OWN_LINES = "write each key in a line of its own, as: ip filter allowed 192.0.2.1 . 80"
 ONE_KEY = "'get' answers one key: write the keys into a file, one in each line, and then: pipapo run SCRIPT FILE"
-AT_FIRST = "write the moment in milliseconds before the script, as: pipapo get --at 500 SCRIPT .."
-NO_WORDS = "leave it out with what follows: a key is only the set and its values"
+AT_FIRST = "write the moment before the script, in milliseconds from the script's start, as: pipapo get --at 500 SCRIPT .."
+NO_WORDS = "leave it out, and all after it: a key is only the set and its values"
 NAMES_P = "write the set's family, table and name, as: ip t p"
 NO_FIELDS = "isn't the name of a set: a key doesn't name fields of a packet"
 TCPDUMP = "isn't the name of a set: this looks like a line of tcpdump"
 FROM_CAPTURE = KEY_FORM + "; 'pipapo capture' takes packets from a capture"
-NO_VERDICT = "leave it out with what follows: a key is only the set and its values, and 'pipapo judge' prints the verdict"
+NO_VERDICT = "leave it out, and all after it: a key is only the set and its values, and 'pipapo judge' prints the verdict"
 BLANKS = "write a '.' with blanks around it between fields, as 192.0.2.1 . 80"
 KEY_LINE = "write a line [FAMILY] TABLE SET VALUE . VALUE .., with one value for each field, or 'at' MOMENT, or 'round'"
 MILLISECONDS = "write a number of milliseconds, at most 1000000000000000"
@@ -461,7 +461,7 @@ KEY_MISTAKES = [
     ("ip t p 90-80", 8, "'90-80' is a range", ONE_VALUE),
     ("ip t p 80-", 8, "'80-' is a range", ONE_VALUE),
     ("ip t p 70000-80000", 8, "'70000-80000' is a range", ONE_VALUE),
-    ("ip t p ssh-443", 8, "'ssh-443' is a range", ONE_VALUE),
+    ("ip t p ssh-443", 8, "'ssh-443' is a range", "write a single port, as a number: a key describes one packet"),
     ("ip t a 10.0.0.9-10.0.0.1 . 80", 8, "'10.0.0.9-10.0.0.1' is a range", ONE_VALUE),
     ("ip t a 10.0.0.1..10.0.0.9 . 80", 8, "'10.0.0.1..10.0.0.9' is a range", ONE_VALUE),
     ("ip t a 10.0.0.1-20 . 80", 8, "'10.0.0.1-20' is a range", ONE_VALUE),
@@ -509,7 +509,7 @@ KEY_MISTAKES = [
     # signs
     ("ip t p (80)", 8, "'(' is an unexpected character", "leave the brackets out, as: ip filter allowed 192.0.2.1 . 80"),
     ("ip t v [2001:db8::1]", 8, "'[' is an unexpected character", "leave the brackets out, as: ip filter allowed 192.0.2.1 . 80"),
-    ("ip t v fe80::1%eth0", 15, "'%' is an unexpected character", "leave it out with what follows: an address has no interface"),
+    ("ip t v fe80::1%eth0", 15, "'%' is an unexpected character", "leave it out, and the interface after it: an address has none"),
     ("ip t p 'http'", 8, "''' is an unexpected character", "leave out the quotes: a value has none"),
     ('ip t p "80', 8, "'\"' is an unexpected character", "leave out the quotes: a value has none"),
     ('ip t a 10.0.0.1 . "http"', 19, "'\"http\"' doesn't fit field 2 (inet_service): a port is a number and not a name", "use 80"),
@@ -661,8 +661,8 @@ RULES_MISTAKES = [
     ("chain main { in ip t p, in ip t n accept }\npolicy drop\n", 1, 23, "',' can't come between tests", "write the tests one after another if a packet has to meet all, or a rule for each if one is enough"),
     ("chain main { in ip t p and in ip t n accept }\npolicy drop\n", 1, 24, "'and' can't come between tests", "write the tests one after another if a packet has to meet all, or a rule for each if one is enough"),
     ("chain main { in ip t p && in ip t n accept }\npolicy drop\n", 1, 24, "'&' is an unexpected character", "write the tests one after another if a packet has to meet all, or a rule for each if one is enough"),
-    ("chain main { in { ip t p, ip t n } accept }\npolicy drop\n", 1, 17, "'{' can't come here: a test names one set", "write a rule for each set, as: in ip t p accept; in ip t s accept"),
-    ("chain main { out { ip t p, ip t n } drop }\npolicy drop\n", 1, 18, "'{' can't come here: a test names one set", "write a test for each set, one after another, as: out ip t p out ip t s drop"),
+    ("chain main { in { ip t p, ip t n } accept }\npolicy drop\n", 1, 17, "'{' can't come here: a test names one set", "write a rule for each set, as: in ip t first accept; in ip t second accept"),
+    ("chain main { out { ip t p, ip t n } drop }\npolicy drop\n", 1, 18, "'{' can't come here: a test names one set", "write a test for each set, one after another, as: out ip t first out ip t second drop"),
     ("chain main { in (ip t p) accept }\npolicy drop\n", 1, 17, "'(' is an unexpected character", "leave the brackets out: a test is in or out, and the set's family, table and name, as: in ip t s"),
     ("chain main { in set ip t p accept }\npolicy drop\n", 1, 21, "'ip' isn't the name of a set", "leave out 'set': a test is in or out, and the set's family, table and name, as: in ip t s"),
     ("chain main { tcp dport @p accept }\npolicy drop\n", 1, 14, "'tcp' can't come here: a rule names no fields of a packet", "test a set, by its family, table and name, as: in ip t s accept"),

@@ -401,7 +401,7 @@ fn explain_range(said: &mut Explained, kind: Kind, wrong: WrongValue<'_>) -> Res
         ),
         WrongValue::Mask => said.say(
             b"a mark in a set has no mask",
-            b"write each mark that is meant",
+            b"write an element for each mark that is meant",
         ),
         WrongValue::Protocol(port) => said.tell(
             &[Piece::Word(b"a port is a number alone")],

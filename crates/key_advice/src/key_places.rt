@@ -14,7 +14,7 @@ pub(crate) const KEY_FORM: &[u8] =
 
 /// What to do with words after a key.
 pub(crate) const VALUES_ALONE: &[u8] =
-    b"leave it out with what follows: a key is only the set and its values";
+    b"leave it out, and all after it: a key is only the set and its values";
 
 /// The words with which a rule decides on a packet.
 const VERDICTS: [&[u8]; 8] = [
@@ -59,7 +59,7 @@ impl KeyPlace {
             KeyPlace::File =>
                 b"write the moment in milliseconds in a line of its own before the key, as: at 500",
             KeyPlace::Get =>
-                b"write the moment in milliseconds before the script, as: pipapo get --at 500 SCRIPT ..",
+                b"write the moment before the script, in milliseconds from the script's start, as: pipapo get --at 500 SCRIPT ..",
         }
     }
 
@@ -77,7 +77,7 @@ impl KeyPlace {
             b"at" | b"--at" => Some(self.for_moment()),
             b"comment" | [b'"', ..] => Some(self.for_comment()),
             _ if is_one_of(word, &VERDICTS) => Some(
-                b"leave it out with what follows: a key is only the set and its values, and 'pipapo judge' prints the verdict",
+                b"leave it out, and all after it: a key is only the set and its values, and 'pipapo judge' prints the verdict",
             ),
             _ if is_one_of(word, &OF_ELEMENTS) => Some(VALUES_ALONE),
             _ => None,

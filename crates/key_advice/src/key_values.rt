@@ -160,6 +160,16 @@ fn explain_no_key_value(said: &mut Explained, field: Field<'_>) -> Result<(), Me
     }
 }
 
+/// What to do with a word that means several values. It may have the name of a service.
+fn for_one(field: Field<'_>) -> &'static [u8] {
+    match field.kind {
+        Kind::Service if field.word.iter().any(|byte| byte.is_ascii_alphabetic()) => {
+            b"write a single port, as a number: a key describes one packet"
+        }
+        _ => ONE_VALUE,
+    }
+}
+
 /// Explains a word at the place of a value of a field, before these bytes of the line.
 fn explain_in_field(said: &mut Explained, field: Field<'_>, behind: &[u8]) -> Result<(), Memory> {
     if is_one_of(field.word, &[b"any", b"all"]) {
@@ -179,7 +189,7 @@ fn explain_in_field(said: &mut Explained, field: Field<'_>, behind: &[u8]) -> Re
                 Piece::Word(shortened(value)),
             ],
         ),
-        (Some(what), None) => said.say(what, ONE_VALUE),
+        (Some(what), None) => said.say(what, for_one(field)),
         (None, _) => explain_no_key_value(said, field),
     }
 }

@@ -199,13 +199,13 @@ fn explain_several(said: &mut Explained, part: &[u8], behind: &[u8]) -> Result<(
         &[Piece::Word(b" can't come here: a test names one set")],
         &[
             Piece::Word(if is_in {
-                b"write a rule for each set, as: in ip t p "
+                b"write a rule for each set, as: in ip t first "
             } else {
-                b"write a test for each set, one after another, as: out ip t p out ip t s "
+                b"write a test for each set, one after another, as: out ip t first out ip t second "
             }),
             Piece::Word(act),
             Piece::Word(chain),
-            Piece::Word(if is_in { b"; in ip t s " } else { b"" }),
+            Piece::Word(if is_in { b"; in ip t second " } else { b"" }),
             Piece::Word(if is_in { act } else { b"" }),
             Piece::Word(if is_in { chain } else { b"" }),
         ],

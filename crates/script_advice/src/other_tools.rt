@@ -49,8 +49,8 @@ pub(crate) fn explain_other_tool(said: &mut Explained, tool: OtherTool) -> Resul
             b"to list its sets, run: ipset-translate restore < FILE > sets.nft; pipapo list sets.nft",
         ),
         OtherTool::IptablesSave => said.say(
-            b" can't begin a statement: this looks like a file of iptables-save, which has no sets",
-            b"its sets are kept by ipset; to list them, run: ipset save | ipset-translate restore > sets.nft; pipapo list sets.nft",
+            b" can't begin a statement: this looks like a file of iptables-save, which only names sets",
+            b"the sets are in ipset; to list them, run: ipset save | ipset-translate restore > sets.nft; pipapo list sets.nft",
         ),
     }
 }

@@ -174,9 +174,9 @@ fn for_verb(verb: &[u8]) -> &'static [u8] {
         b"create" =>
             b"write 'element', the set, and the elements in braces, as: create element ip t p { 80, 443 }",
         b"delete" =>
-            b"write 'delete element' to remove some elements, or 'flush set' to remove all of a set",
+            b"write 'delete element' to remove some elements, or 'flush set' to remove all elements of a set",
         _ =>
-            b"write 'destroy element' to remove some elements, or 'flush set' to remove all of a set",
+            b"write 'destroy element' to remove some elements, or 'flush set' to remove all elements of a set",
     }
 }
 

@@ -48,7 +48,7 @@ pub(crate) fn explain_value(said: &mut Explained, fault: Fault<'_>) -> Result<()
         }
         WrongValue::Several if field.kind == Kind::Mark => said.say(
             b" is a prefix, and the set has single values",
-            b"write each mark that is meant",
+            b"write an element for each mark that is meant",
         ),
         WrongValue::Several => {
             said.wrong

@@ -81,7 +81,7 @@ pub const LONG_KEY: &[u8] =
     b"a key has 16 fields and 64 bytes at most: ipv6_addr takes 16 of them, ether_addr 8, each other type 4";
 
 /// What to do with the interface in an address, as in `fe80::1%eth0`.
-pub const NO_INTERFACE: &[u8] = b"leave it out with what follows: an address has no interface";
+pub const NO_INTERFACE: &[u8] = b"leave it out, and the interface after it: an address has none";
 
 /// What to do about a token that begins with this byte, which begins no word and no string.
 fn for_character(first: Option<&u8>) -> &'static [u8] {
