@@ -26,7 +26,12 @@ fn token_note(alloc: Global, bad: BadToken, cut: Cut<'_>) -> Result<Note, Memory
 }
 
 /// What is wrong, the line with carets under the token, and what to do.
-fn with_source(alloc: Global, said: &Explained, bad: BadToken, cut: Cut<'_>) -> Result<Note, Memory>
+pub(crate) fn with_source(
+    alloc: Global,
+    said: &Explained,
+    bad: BadToken,
+    cut: Cut<'_>,
+) -> Result<Note, Memory>
     ensures { IfOk result (λ note. IsSaid (both_lines cut.entry.front.now cut.entry.token.now cut.entry.behind.now) note.bytes.items false) }
 {
     let mut note = token_note(alloc, bad, cut)?;
@@ -127,7 +132,12 @@ fn said_of_other(
 }
 
 /// A note that begins with the place of a bad token.
-fn placed_note(alloc: Global, name: &str, bad: BadToken, behind: &Note) -> Result<Note, Memory>
+pub(crate) fn placed_note(
+    alloc: Global,
+    name: &str,
+    bad: BadToken,
+    behind: &Note,
+) -> Result<Note, Memory>
     ensures place { IfOk result (λ note. Begins (place_text name.now bad.line bad.column) note.bytes.items) }
     ensures said { (lines : List ℕ) (is_other : Bool) → IsSaid lines behind.now.bytes.items is_other → IfOk result (λ note. IsSaidAt (place_text name.now bad.line bad.column) lines is_other note.bytes.items) }
 {

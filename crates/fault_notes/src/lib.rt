@@ -31,6 +31,7 @@
 mod bad;
 mod captures;
 mod hidden;
+mod left_out;
 mod refusals;
 mod refused;
 mod told;
@@ -38,6 +39,7 @@ mod told;
 pub use bad::{bad_key_note, bad_script_note, bad_text_note, further_key_note, further_note};
 pub use captures::capture_note;
 pub use hidden::hidden_note;
+pub use left_out::{LeftOut, left_out_note, names_set_at};
 pub use pcap_keys::CaptureReason;
 pub use refusals::refusals_note;
 pub use refused::{Met, RefusedChange, RefusedChanges};

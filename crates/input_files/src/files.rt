@@ -19,6 +19,7 @@ ghost use Rattle.input_files.specs.Seen.{AddsSkips, ruleset_names, seen};
 
 use crate::fault::{FileFault, Flaw};
 use crate::keys_told::tell_keys;
+use crate::left_out::ScriptSets;
 use crate::script_told::tell_script;
 use crate::seen::{Rulesets, Skips, read_of};
 use crate::told::{tell_bad, tell_capture, tell_read_fault, tell_too_large};
@@ -188,7 +189,8 @@ pub fn keys_of<'a, F: Shelf, N: Notes>(
         Ok(keys) => Ok(keys),
         Err(FormError::Bad { line, reason }) => {
             let found = key_file::bad_token(alloc, schema, bytes);
-            tell_keys(alloc, notes, schema, name, bytes, found);
+            let sets = ScriptSets { schema, skipped };
+            tell_keys(alloc, notes, sets, name, bytes, found);
             Err(FileFault::Bad(Flaw::Keys { line, reason }))
         }
         Err(FormError::Memory) => Err(FileFault::Memory),
@@ -228,7 +230,8 @@ pub fn rules_of<'a, F: Shelf, N: Notes>(
         Ok(rules) => Ok(rules),
         Err(FormError::Bad { line, reason }) => {
             let found = rule_chain::bad_token(alloc, schema, bytes);
-            tell_bad(alloc, notes, TextKind::Rules, schema, name, bytes, found);
+            let sets = ScriptSets { schema, skipped };
+            tell_bad(alloc, notes, TextKind::Rules, sets, name, bytes, found);
             Err(FileFault::Bad(Flaw::Rules { line, reason }))
         }
         Err(FormError::Memory) => Err(FileFault::Memory),
@@ -268,7 +271,8 @@ pub fn plan_of<'a, F: Shelf, N: Notes>(
         Ok(plan) => Ok(plan),
         Err(FormError::Bad { line, reason }) => {
             let found = pcap_keys::bad_token(alloc, schema, bytes);
-            tell_bad(alloc, notes, TextKind::Plan, schema, name, bytes, found);
+            let sets = ScriptSets { schema, skipped };
+            tell_bad(alloc, notes, TextKind::Plan, sets, name, bytes, found);
             Err(FileFault::Bad(Flaw::Plan { line, reason }))
         }
         Err(FormError::Memory) => Err(FileFault::Memory),

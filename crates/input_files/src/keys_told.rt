@@ -6,16 +6,16 @@ ghost use Rattle.key_file.specs.Keys.{key_file as key_form};
 ghost use Rattle.set_script.specs.Limits.{most_sets};
 ghost use Rattle.input_files.specs.Noted.{AreFurther, IsNoteFrom, IsNotedFrom};
 
+use crate::left_out::{ScriptSets, further_text_note, text_note};
 use crate::script_told::{MOST_FURTHER, MOST_READ_AGAIN};
-use fault_notes::{
-    Note, TextKind, bad_text_note, further_key_note, hidden_note, is_other_kind, tell_note,
-    without_key_line,
-};
+use fault_notes::{hidden_note, tell_note};
 use key_file::bad_token;
 use pip_base::Notes;
-use set_model::{Memory, Schema};
+use script_advice::without_key_line;
+use set_model::Memory;
 use std::alloc::Global;
 use token_forms::BadToken;
+use token_notes::{Note, TextKind, is_other_kind};
 
 /// The notes on the bad tokens after this one, at most so many, and the line that says that there are more, if
 /// there are. Each is the bad token of the key file without the lines of those before it. In `rest` these are
@@ -23,26 +23,26 @@ use token_forms::BadToken;
 #[tactic(auto, using(crate::proofs::Telling::none_further))]
 fn further_keys(
     alloc: Global,
-    schema: &Schema,
+    sets: ScriptSets<'_>,
     name: &str,
     text: &[u8],
     rest: &[u8],
     bad: BadToken,
     most: u64,
 ) -> Result<Note, Memory>
-    requires { length schema.now ≤ most_sets }
-    ensures { IfOk result (λ notes. AreFurther (key_form schema.now) name.now text.now most rest.now notes.bytes.items) }
+    requires { length sets.schema.now ≤ most_sets }
+    ensures { IfOk result (λ notes. AreFurther (key_form sets.entry.schema.now) name.now text.now most rest.now notes.bytes.items) }
 {
     let left = without_key_line(alloc, rest, bad.at)?;
     let bytes = left.as_slice();
-    let found = bad_token(alloc, schema, bytes)?;
+    let found = bad_token(alloc, sets.schema, bytes)?;
     match found {
         Some(next) if next.at > bad.at => {
             if most == 0 {
                 return hidden_note(alloc, name);
             }
-            let mut notes = further_key_note(alloc, schema, name, text, next)?;
-            let more = further_keys(alloc, schema, name, text, bytes, next, most - 1)?;
+            let mut notes = further_text_note(alloc, sets, name, text, next)?;
+            let more = further_keys(alloc, sets, name, text, bytes, next, most - 1)?;
             notes.join(&more)?;
             Ok(notes)
         }
@@ -54,22 +54,22 @@ fn further_keys(
 #[tactic(auto, using(crate::proofs::Telling::first_alone))]
 fn keys_note(
     alloc: Global,
-    schema: &Schema,
+    sets: ScriptSets<'_>,
     name: &str,
     text: &[u8],
     bad: BadToken,
 ) -> Result<Note, Memory>
-    requires { length schema.now ≤ most_sets }
-    ensures { IfOk result (λ note. IsNoteFrom kinds.Keys (key_form schema.now) name.now text.now bad note.bytes.items) }
+    requires { length sets.schema.now ≤ most_sets }
+    ensures { IfOk result (λ note. IsNoteFrom kinds.Keys (key_form sets.entry.schema.now) name.now text.now bad note.bytes.items) }
 {
-    let mut note = bad_text_note(alloc, TextKind::Keys, schema, name, text, bad)?;
+    let mut note = text_note(alloc, TextKind::Keys, sets, name, text, bad)?;
     if text.len() > MOST_READ_AGAIN {
         return Ok(note);
     }
     if is_other_kind(TextKind::Keys, text, bad) {
         return Ok(note);
     }
-    let more = further_keys(alloc, schema, name, text, text, bad, MOST_FURTHER)?;
+    let more = further_keys(alloc, sets, name, text, text, bad, MOST_FURTHER)?;
     note.join(&more)?;
     Ok(note)
 }
@@ -79,16 +79,16 @@ fn keys_note(
 pub fn tell_keys<N: Notes>(
     alloc: Global,
     notes: &mut N,
-    schema: &Schema,
+    sets: ScriptSets<'_>,
     name: &str,
     text: &[u8],
     found: Result<Option<BadToken>, Memory>,
 ) -> bool
-    requires { length schema.now ≤ most_sets }
-    ensures { SaysTold (IsNotedFrom kinds.Keys (key_form schema.now) found name.now text.now) (N.told notes.old) (N.told notes.new) result }
+    requires { length sets.schema.now ≤ most_sets }
+    ensures { SaysTold (IsNotedFrom kinds.Keys (key_form sets.entry.schema.now) found name.now text.now) (N.told notes.old) (N.told notes.new) result }
 {
     match found {
-        Ok(Some(bad)) => tell_note(notes, keys_note(alloc, schema, name, text, bad)),
+        Ok(Some(bad)) => tell_note(notes, keys_note(alloc, sets, name, text, bad)),
         _ => false,
     }
 }

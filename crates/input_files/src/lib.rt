@@ -24,6 +24,7 @@
 mod fault;
 mod files;
 mod keys_told;
+mod left_out;
 mod rulesets;
 mod script_told;
 mod seen;
@@ -31,5 +32,6 @@ mod told;
 mod work;
 
 pub use fault::{FileFault, Flaw};
+pub use left_out::ScriptSets;
 pub use seen::{Rulesets, Skips};
 pub use work::{Work, work_of};

@@ -5,9 +5,9 @@ ghost use Rattle.ruleset_sets.specs.RulesetText.{leaves_out};
 ghost use Rattle.skip_notes.specs.Skips.{skips_text};
 ghost use Rattle.input_files.specs.Seen.{KeepsAll, is_ruleset, kept_if, leaves_if, ruleset_names, skips_if};
 
-use ruleset_sets::{Skipped, leaves_sets_out, sieve_ruleset};
-use set_model::Memory;
-use skip_notes::{SkipsNote, skips_note};
+use ruleset_sets::{Sieved, Skipped, leaves_sets_out, sieve_ruleset};
+use set_model::{Listed, Memory};
+use skip_notes::{SievedRuleset, SkipsNote, skips_note};
 use std::alloc::Global;
 
 /// The files of a command that are rulesets, by their names. A command reads what is kept of them.
@@ -41,6 +41,8 @@ pub struct Skips {
     pub lines: SkipsNote,
     /// Whether a set, or a statement on one, is left out.
     pub leaves_sets_out: bool,
+    /// The last ruleset that was read.
+    pub ruleset: Option<SievedRuleset>,
 }
 
 impl Skips {
@@ -51,6 +53,7 @@ impl Skips {
         Skips {
             lines: SkipsNote::new(alloc),
             leaves_sets_out: false,
+            ruleset: None,
         }
     }
 
@@ -59,29 +62,30 @@ impl Skips {
         &mut self,
         alloc: Global,
         name: &str,
-        text: &[u8],
-        skips: &[Skipped],
+        text: Vec<u8>,
+        skips: Listed<Skipped>,
     ) -> Result<(), Memory>
-        ensures lines { OnOk result (self.new.lines.bytes.items ≡ self.old.lines.bytes.items ++ skips_text name.now text.now skips.now) }
-        ensures sets { OnOk result (self.new.leaves_sets_out ≡ (self.old.leaves_sets_out || list_any (λ s. leaves_out s.why) skips.now)) }
+        ensures lines { OnOk result (self.new.lines.bytes.items ≡ self.old.lines.bytes.items ++ skips_text name.now text.items skips) }
+        ensures sets { OnOk result (self.new.leaves_sets_out ≡ (self.old.leaves_sets_out || list_any (λ s. leaves_out s.why) skips)) }
     {
-        let lines = skips_note(alloc, name, text, skips)?;
+        let lines = skips_note(alloc, name, text.as_slice(), skips.as_slice())?;
         self.lines.join(&lines)?;
-        self.leaves_sets_out = self.leaves_sets_out || leaves_sets_out(skips);
+        self.leaves_sets_out = self.leaves_sets_out || leaves_sets_out(skips.as_slice());
+        self.ruleset = Some(SievedRuleset::new(alloc, name, text, skips)?);
         Ok(())
     }
 }
 
 /// What is kept of a ruleset. The rest is added to `skipped`.
 #[tactic(auto, using(ruleset_sets::proofs::KeptLaws::kept_is))]
-fn kept_of(alloc: Global, skipped: &mut Skips, name: &str, text: &[u8]) -> Result<Vec<u8>, Memory>
-    ensures kept { IfOk result (λ kept. kept.items ≡ kept_if true text.now) }
-    ensures lines { OnOk result (skipped.new.lines.bytes.items ≡ skipped.old.lines.bytes.items ++ skips_if true name.now text.now) }
-    ensures sets { OnOk result (skipped.new.leaves_sets_out ≡ (skipped.old.leaves_sets_out || leaves_if true text.now)) }
+fn kept_of(alloc: Global, skipped: &mut Skips, name: &str, text: Vec<u8>) -> Result<Vec<u8>, Memory>
+    ensures kept { IfOk result (λ kept. kept.items ≡ kept_if true text.items) }
+    ensures lines { OnOk result (skipped.new.lines.bytes.items ≡ skipped.old.lines.bytes.items ++ skips_if true name.now text.items) }
+    ensures sets { OnOk result (skipped.new.leaves_sets_out ≡ (skipped.old.leaves_sets_out || leaves_if true text.items)) }
 {
-    let sieved = sieve_ruleset(alloc, text)?;
-    skipped.add(alloc, name, text, sieved.skips.as_slice())?;
-    Ok(sieved.text)
+    let Sieved { text: kept, skips } = sieve_ruleset(alloc, text.as_slice())?;
+    skipped.add(alloc, name, text, skips)?;
+    Ok(kept)
 }
 
 /// What is read of a text: of a ruleset what is kept of it. The rest of a ruleset is added to `skipped`.
@@ -101,7 +105,7 @@ pub fn read_of(
     ensures sets { OnOk result (skipped.new.leaves_sets_out ≡ (skipped.old.leaves_sets_out || leaves_if is_ruleset text.items)) }
 {
     if is_ruleset {
-        kept_of(alloc, skipped, name, text.as_slice())
+        kept_of(alloc, skipped, name, text)
     } else {
         Ok(text)
     }

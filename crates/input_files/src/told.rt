@@ -3,12 +3,14 @@ ghost use Rattle.token_notes.specs.Shown.{Begins, byte_text, name_text};
 ghost use Rattle.fault_notes.specs.Told.{SaysTold};
 ghost use Rattle.input_files.specs.Noted.{IsPlacedBy};
 
-use fault_notes::{TextKind, bad_text_note, capture_note, tell_note, too_large_note};
+use crate::left_out::{ScriptSets, text_note};
+use fault_notes::{capture_note, tell_note};
 use pcap_keys::CaptureReason;
 use pip_base::{FaultKind, Notes};
-use set_model::{Memory, Schema};
+use set_model::Memory;
 use std::alloc::Global;
 use token_forms::BadToken;
+use token_notes::{TextKind, too_large_note};
 use word_notes::unread_note;
 
 /// Prints where a text beside a script isn't in its grammar under the script's sets, by its bad token, if that was found.
@@ -16,7 +18,7 @@ pub fn tell_bad<N: Notes>(
     alloc: Global,
     notes: &mut N,
     kind: TextKind,
-    schema: &Schema,
+    sets: ScriptSets<'_>,
     name: &str,
     text: &[u8],
     found: Result<Option<BadToken>, Memory>,
@@ -24,7 +26,7 @@ pub fn tell_bad<N: Notes>(
     ensures { SaysTold (IsPlacedBy kind found name.now text.now) (N.told notes.old) (N.told notes.new) result }
 {
     match found {
-        Ok(Some(bad)) => tell_note(notes, bad_text_note(alloc, kind, schema, name, text, bad)),
+        Ok(Some(bad)) => tell_note(notes, text_note(alloc, kind, sets, name, text, bad)),
         _ => false,
     }
 }

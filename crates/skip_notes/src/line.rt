@@ -44,7 +44,12 @@ fn column(text: &[u8], at: u64) -> u64
 }
 
 /// Appends the place of an item or a part.
-fn append_place(name: &[u8], text: &[u8], at: &RoleToken, out: &mut Vec<u8>) -> Result<(), Memory>
+pub fn append_place(
+    name: &[u8],
+    text: &[u8],
+    at: &RoleToken,
+    out: &mut Vec<u8>,
+) -> Result<(), Memory>
     ensures { OnOk result (out.new.items ≡ out.old.items ++ place_bytes name.now text.now at.now) }
 {
     append_pieces(
@@ -86,7 +91,7 @@ fn append_token(
 }
 
 /// Appends what becomes of a thing that isn't kept, and why. The token that is the reason is in quotes.
-fn append_reason(text: &[u8], why: SkipReason, out: &mut Vec<u8>) -> Result<(), Memory>
+pub fn append_reason(text: &[u8], why: SkipReason, out: &mut Vec<u8>) -> Result<(), Memory>
     ensures { OnOk result (out.new.items ≡ out.old.items ++ reason_words text.now why) }
 {
     match why {

@@ -181,7 +181,7 @@ fn do_command<'a, R: Threads + Wait + Sync, F: Shelf, K: Sink, N: Notes, G: Gate
                     with_left_out(command, skipped.leaves_sets_out, status)
                 }
                 Err(error) => {
-                    let _ = tell_error(alloc, notes, command, &error);
+                    let _ = tell_error(alloc, notes, command, &error, &skipped);
                     tell(sink, answer_fault(&error))
                 }
             },
