@@ -183,6 +183,7 @@ MISTAKES = [
     (declare("typeof ip sadr"), 2, 28, "'sadr' isn't part of an expression that is known here", "did you mean 'saddr'?", "syntax error, unexpected string"),
     (declare("typeof ipv4_addr . inet_service"), 2, 25, "'ipv4_addr' isn't part of an expression that is known here", EXPRESSIONS, "primary expression type 'symbol' lacks typeof serialization"),
     (declare("typeof tcp . ip saddr"), 2, 29, "'.' comes before the end of an expression", PORT_WORD, "syntax error, unexpected ."),
+    ("add table ip t\nadd set ip t s { typeof tcp", 2, 28, "the end of the text comes before the end of an expression", PORT_WORD, "syntax error, unexpected end of file"),
     (declare("typeof tcp"), 2, 28, "';' comes before the end of an expression", PORT_WORD, "syntax error, unexpected semicolon"),
     (declare("typeof ip saddr tcp dport"), 2, 34, "'tcp' can't follow a whole expression", "write ' . ' between expressions", "syntax error, unexpected tcp, expecting newline or semicolon or ."),
     (declare("typeof ip saddr, tcp dport"), 2, 33, "',' can't follow a whole expression", "write ' . ' between expressions", "syntax error, unexpected comma, expecting newline or semicolon or ."),
@@ -234,6 +235,7 @@ MISTAKES = [
     (SETS + "flush set ip t p p\n", 2, 18, "'p' comes after the end of the statement", "leave it out: 'flush set' ends with the set's name", "syntax error, unexpected string, expecting end of file or newline or semicolon"),
     (SETS + "flush set ip t p { 80 }\n", 2, 18, "'{' can't follow the set's name", "'flush set' removes all elements: write 'delete element' to remove some", "syntax error, unexpected '{', expecting end of file or newline or semicolon"),
     ("add table ip t t\n", 1, 16, "'t' comes after the end of the statement", "leave it out: 'add table' ends with the table's name", "syntax error, unexpected string, expecting end of file or newline or semicolon"),
+    (SETS + "ip t p { 80 }\n", 2, 1, "'ip' can't begin a statement", "write 'add element' before it", "syntax error, unexpected newline"),
     (SETS + "ip t p 80\n", 2, 1, "'ip' can't begin a statement", "to add it, write: add element ip t p { 80 }; to look it up, write the line into a key file, which 'run' takes after the script", "syntax error, unexpected newline"),
     # lines of a shell
     (SETS + "nft add element ip t p { 80 }\n", 2, 1, "'nft' can't begin a statement", "leave out 'nft', " + ALONE_LINE, "syntax error, unexpected add, expecting string"),

@@ -8,13 +8,13 @@ use crate::shell::{explain_end, for_command, names_a_shell};
 use crate::times::{explain_time, explain_unit, is_apart};
 use crate::types::TYPES;
 use crate::values::explain_all;
-use field_advice::{add_set, explain_family, family_meant, set_named};
+use field_advice::{add_set, explain_family, family_meant, is_typeof, set_named};
 use set_model::Memory;
 use text_pieces::Piece;
 use token_forms::{Reason, is_a_name};
 use token_notes::{
-    Explained, SIZE, TextKind, after_words, explain_plainly, is_family, is_one_of, last_word,
-    shortened, without_blanks, word_at,
+    Explained, SIZE, TextKind, after_words, explain_plainly, first_line, is_family, is_one_of,
+    last_word, shortened, without_blanks, word_at,
 };
 
 /// The words that begin a statement.
@@ -93,7 +93,12 @@ fn explain_key_line(said: &mut Explained, fault: Fault<'_>) -> Result<(), Memory
     let place = set_named(line, 0);
     let values = without_blanks(after_words(line, 3));
     said.wrong.say(b" can't begin a statement")?;
-    if values.is_empty() || values.contains(&b'{') || values.len() > LONGEST_VALUES {
+    if values.first() == Some(&b'{') {
+        return said.help.say(b"write 'add element' before it");
+    }
+    let has_several = values.contains(&b'{')
+        || first_line(fault.around.behind(fault.at)).contains(&b',');
+    if values.is_empty() || has_several || values.len() > LONGEST_VALUES {
         return said.help.say(
             b"to add an element, write: add element [FAMILY] TABLE SET { VALUES }; a line of a key file isn't part of a script",
         );
@@ -450,6 +455,11 @@ fn explain_item(said: &mut Explained, fault: Fault<'_>) -> Result<(), Memory> {
     said.say(b" is given twice", b"leave one of the two out")
 }
 
+/// Whether a token comes in the item `typeof` of a set, before the end of an expression.
+fn is_unfinished(fault: Fault<'_>) -> bool {
+    is_typeof(fault.around.part) && lacks_words(fault.around.part)
+}
+
 /// Explains a token after the word of an item.
 fn explain_in_item(said: &mut Explained, fault: Fault<'_>) -> Result<(), Memory> {
     let part = fault.around.part;
@@ -491,7 +501,7 @@ fn explain_in_item(said: &mut Explained, fault: Fault<'_>) -> Result<(), Memory>
             b" can't follow a type",
             b"write ' . ' between types",
         ),
-        b"typeof" if lacks_words(part) => explain_unfinished(said, part),
+        _ if is_unfinished(fault) => explain_unfinished(said, part),
         b"typeof" if is_one_of(word, &[b",", b"/"]) || is_expression_word(word) => said.say(
             b" can't follow a whole expression",
             b"write ' . ' between expressions",
@@ -587,6 +597,7 @@ pub(crate) fn explain_text_end(said: &mut Explained, fault: Fault<'_>) -> Result
     let line = fault.around.open_line();
     match fault.around.level {
         Level::Statement => explain_in_statement(said, fault),
+        Level::Set if is_unfinished(fault) => explain_unfinished(said, fault.around.part),
         level => said.tell(
             &[
                 Piece::Word(b" leaves the '{' of line "),
