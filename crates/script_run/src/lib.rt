@@ -16,8 +16,8 @@
 //! the lines of its packets.
 //!
 //! [`transcript`] and [`judged`] return the text of a run, whose packets are looked up or judged by
-//! chains of rules. [`listing`] and [`dump`] return the last generation, and [`drill`] the line of a
-//! generated workload.
+//! chains of rules. [`told_by`] runs any judge that writes its packets' lines ([`Teller`]). [`listing`] and
+//! [`dump`] return the last generation, and [`drill`] the line of a generated workload.
 //!
 //! **Definitions:** `specs/Telling.antt`, `Listings.antt` and `Drill.antt`. `specs/Legal.antt` of
 //! `set_model` says which transcripts are legal. **Theory:** docs/architecture.md, "The way of a run"
@@ -31,6 +31,7 @@ mod telling;
 mod whole;
 
 pub use drilling::drill;
-pub use output::{dump, judged, listing, transcript};
+pub use output::{dump, judged, listing, told_by, transcript};
 pub use script_laws::{Output, Refusal, has_numbers};
+pub use teller::Teller;
 pub use whole::Whole;

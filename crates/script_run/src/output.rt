@@ -47,8 +47,12 @@ fn later_sections(sections: &Sections, keys: &Keys) -> u64
 }
 
 /// Runs a script beside the packets of a key file, and writes of both. So many threads hand the packets
-/// to a judge.
-fn told_by<R: Threads + Sync, J: Teller, G: Gate>(
+/// to a judge, which writes the packets' lines. The output has no script yet.
+///
+/// # Errors
+///
+/// `Memory` if memory runs out.
+pub fn told_by<R: Threads + Sync, J: Teller, G: Gate>(
     rt: &R,
     alloc: Global,
     script: &Script,
