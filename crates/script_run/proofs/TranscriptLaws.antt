@@ -1,25 +1,21 @@
 -- The transcript of a run: each packet gets a generation that was committed by the end of its section.
-use Rattle.std.proofs.Common.{◌≡◌, refl, sym, ◌∙◌, ap, subst, ℕ, zero, suc, ◌+◌, ◌-◌, ◌/◌, ◌<◌, ◌≤◌, Bool, false, ◌||◌, List, [], ◌∷◌, ◌++◌, length, take, drop, slice_get, get_or, Option, Some, None, arith, All, append-nil, append_assoc, add-one, add-zero, ◌⊎◌, inl, inr, unwrap_or}
+use Rattle.std.proofs.Common.{◌≡◌, refl, sym, ◌∙◌, ap, subst, ℕ, zero, suc, ◌+◌, ◌-◌, ◌/◌, ◌<◌, ◌≤◌, Bool, false, ◌||◌, List, [], ◌∷◌, ◌++◌, length, take, drop, slice_get, Some, arith, All, append-nil, append_assoc, add-one, add-zero, ◌⊎◌, inl, inr}
 use Rattle.std.specs.List.{flat_map, range_with_len, list_any}
-use Rattle.std.proofs.lemmas.List.{length-map, length-append, take_all}
+use Rattle.std.proofs.lemmas.List.{length-append, take_all}
 use Rattle.std.proofs.lemmas.List.Elements.{filter_map-append}
 use Rattle.std.proofs.lemmas.Option.{slice_get_within}
 use Rattle.set_model.specs.declared.packet.Packet.{Packet}
 use Rattle.set_model.specs.declared.packet.Verdict.{Verdict}
-use Rattle.set_model.specs.declared.report.Event.{Event}
 use Rattle.set_model.specs.declared.report.Line.{Line}
 use Rattle.set_model.specs.declared.script.Script.{Script}
 use Rattle.set_model.specs.declared.script.Step.{Step}
 use Rattle.set_model.specs.declared.script.SetDecl.{SetDecl}
-use Rattle.set_model.specs.Control.{Mode, mode_of, Control, Generation, start, section, history, is_refusal, has_refusal, first_generation}
+use Rattle.set_model.specs.Control.{Mode, mode_of, Control, Generation, section, history, is_refusal, has_refusal}
 use Rattle.set_model.specs.Legal.{AreLegal, IsLegalLine, IsLegalPair, IsVerdict, Placed, placed, before, after, last, section_events}
 use Rattle.set_model.specs.Runnable.{IsFitting}
 use Rattle.set_model.specs.Text.{run_text, section_text, section_count, events_text, section_lines, packets_before, packets_up_to}
-use Rattle.gen_publish.specs.Publish.{Steering, Grown, declared_kinds}
-use Rattle.packet_pool.specs.Running.{run, StandsAt, Ran}
-use Rattle.packet_pool.proofs.RunLaws.{fold-more}
-use Rattle.set_report.specs.Writes.{NamesSet, AreSetsOf}
-use Rattle.set_space.specs.Open.{opened}
+use Rattle.gen_publish.specs.Publish.{Grown}
+use Rattle.packet_pool.specs.Running.{run, StandsAt}
 use Rattle.packet_pool.specs.Section.{IsSection, IsSectionLine, AnswersPacket}
 use Rattle.packet_pool.specs.Work.{AllReady}
 use Rattle.script_run.specs.declared.telling.Telling.{Telling}
@@ -29,8 +25,8 @@ use Rattle.script_laws.specs.Reports.{refusal_in, refusals_in, refusals_of}
 use Rattle.script_laws.specs.Sections.{section_at}
 use Rattle.script_run.specs.Telling.{IsAtStart, IsAnsweredBy, TellsSection}
 use Rattle.set_model.proofs.ClosedLaws.{closed-section}
-use Rattle.script_laws.proofs.ControlLaws.{history-next, history_numbered, section_later, history_of, history_sets}
-use Rattle.script_laws.proofs.Lists.{list_any-append, append-either, drop-take-behind, of-item}
+use Rattle.script_laws.proofs.ControlLaws.{history-next, history_numbered, section_later}
+use Rattle.script_laws.proofs.Lists.{list_any-append, append-either, drop-take-behind}
 use Rattle.script_run.proofs.SectionLaws.{grown_at}
 use Rattle.script_run.proofs.PlacedLaws.{in_section, count-next, of-placed, placed-here, placed-before, placed-count, count-rises}
 
