@@ -1,0 +1,4 @@
+mod StepLaws
+mod MadeLaws
+mod LineLaws
+mod Worked
