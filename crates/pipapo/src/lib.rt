@@ -59,6 +59,7 @@
 //! packets of a key file. They refuse a text that isn't in its grammar, with its line and the reason. `run_steps` does a
 //! script's steps on a control, `write_events` writes their events, and `write_list` a generation as a script again.
 //! `transcript`, `listing` and `dump` return what the commands `run`, `list` and `dump` write.
+//! `transcript_with_elements` returns a transcript that names the elements that were found.
 //!
 //! **Each call's promise and cost:** docs/library.md. **Definitions:** docs/definitions.md. The contracts of controls
 //! and readers are in `gen_publish`, those of a transaction in `set_space`, and those of a set in `pipapo_image`.
@@ -124,6 +125,7 @@
 //! ```
 #![tactic(auto)]
 
+pub use element_lines::transcript_with_elements;
 pub use gen_publish::{Control, Held, Note, Reader, Receipt, start};
 pub use key_file::{KeyError, Reason, read_keys};
 pub use packet_pool::{Gate, OpenGate, count_commits, run_steps};

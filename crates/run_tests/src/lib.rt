@@ -12,6 +12,8 @@ mod beside;
 #[cfg(test)]
 mod desks;
 #[cfg(test)]
+mod elements;
+#[cfg(test)]
 mod front_door;
 #[cfg(test)]
 mod meters;
