@@ -315,36 +315,11 @@ const LEFT_OUT: [Read; 6] = [
     },
 ];
 
-/// A set that is left out, in a statement of its own.
-const ADDED: &str = "add table inet geo\nadd set inet geo m { type ifname; }\n";
-
 /// Keys of a set that is left out, of one that isn't there, and of the first one again.
 const LEFT_OUT_KEYS: &str = "ip t m 192.0.2.1\nip6 t m ::1\nt m 192.0.2.2\n";
 
-/// Words, key files, rules and plans that name a set which is left out.
-const NAMED: [Read; 5] = [
-    Read {
-        words: &["get", "--sets", "two.nft", "t", "m", "192.0.2.1"],
-        output: "pipapo: key line 1: set\n",
-        notes: Some(
-            "two.nft:2:2: 'set m' is left out: 'auto-merge' isn't read here\n\
-              key:1:3: 'm' is left out: 'auto-merge' isn't read here\n\
-              t m 192.0.2.1\n\x20 ^\n\
-              help: name another set, or change the ruleset at two.nft:5:3\n",
-        ),
-        status: 13,
-    },
-    Read {
-        words: &["get", "--sets", "add.nft", "inet geo m 1"],
-        output: "pipapo: key line 1: set\n",
-        notes: Some(
-            "add.nft:2:1: 'add set' is left out: it has the type 'ifname', which isn't known here\n\
-              key:1:10: 'm' is left out: it has the type 'ifname', which isn't known here\n\
-              inet geo m 1\n\x20        ^\n\
-              help: name another set, or change the ruleset at add.nft:2:27\n",
-        ),
-        status: 13,
-    },
+/// A key file that names a set which is left out.
+const NAMED: [Read; 1] = [
     // the set of another family isn't there
     Read {
         words: &["explain", "--sets", "two.nft", "left.keys"],
@@ -361,26 +336,6 @@ const NAMED: [Read; 5] = [
               help: name another set, or change the ruleset at two.nft:5:3\n",
         ),
         status: 4,
-    },
-    Read {
-        words: &["judge", "--sets", "two.nft", "left.rules", "left.keys"],
-        output: "pipapo: rules line 2: set\n",
-        notes: Some(
-            "left.rules:2:6: 'm' is left out: 'auto-merge' isn't read here\n\
-              in t m accept\n\x20    ^\n\
-              help: name another set, or change the ruleset at two.nft:5:3\n",
-        ),
-        status: 9,
-    },
-    Read {
-        words: &["capture", "--sets", "two.nft", "left.plan", "left.keys"],
-        output: "pipapo: plan line 1: set\n",
-        notes: Some(
-            "left.plan:1:6: 'm' is left out: 'auto-merge' isn't read here\n\
-              ip t m ip_saddr\n\x20    ^\n\
-              help: name another set, or change the ruleset at two.nft:5:3\n",
-        ),
-        status: 11,
     },
 ];
 
@@ -416,12 +371,9 @@ fn sets_that_are_left_out(rt: HostRuntime) -> Result<(), Fail> {
 
 #[test]
 fn names_of_sets_that_are_left_out(rt: HostRuntime) -> Result<(), Fail> {
-    let files: [File<'_>; 5] = [
+    let files: [File<'_>; 2] = [
         ("two.nft", TWO_SETS.as_bytes()),
-        ("add.nft", ADDED.as_bytes()),
         ("left.keys", LEFT_OUT_KEYS.as_bytes()),
-        ("left.rules", b"chain c {\nin t m accept\n}\npolicy drop\n"),
-        ("left.plan", b"ip t m ip_saddr\n"),
     ];
     check_reads(&rt, rt.alloc(), &files, &NAMED)
 }
