@@ -66,6 +66,12 @@ FILES = {
     "missing.nft": PORTS + "delete element ip t p { 81 }\n",
     "many.nft": PORTS + "".join(f"delete element ip t p {{ {port} }}\n" for port in range(1, 26)),
     "twenty.nft": PORTS + "".join(f"delete element ip t p {{ {port} }}\n" for port in range(1, 21)),
+    # tests that no packet can meet
+    "unmet.nft": "add set inet filter blocked { type ipv4_addr ; }\nadd set inet filter web { type ipv4_addr . inet_service ; }\n",
+    "unmet.keys": "inet filter web 10.0.0.1 . 80\n",
+    "met.keys": "inet filter web 10.0.0.1 . 80\ninet filter blocked 10.0.0.1\n",
+    "rules": "chain main { in inet filter blocked drop ; in inet filter web accept }\npolicy drop\n",
+    "twelve.rules": "chain main {\n" + "out inet filter blocked accept\n" * 12 + "}\npolicy drop\n",
     "one_more.nft": PORTS + "".join(f"delete element ip t p {{ {port} }}\n" for port in range(1, 22)),
 }
 
@@ -81,8 +87,8 @@ USAGE = re.compile("pipapo: usage: ")
 
 
 def cases(shown):
-    """The cases; `shown` are the examples of the formats, which tell of the files x.nft and overlap.nft."""
-    left_out, overlap, failed = shown
+    """The cases; `shown` are the examples of the formats, which tell of the files x.nft, overlap.nft and rules."""
+    left_out, overlap, failed, unmet = shown
     run = ["run", "good.nft"]
     capture = ["capture", "good.nft", "good.plan"]
     yield ["list", "x.nft"], left_out, "pipapo: script line 5: left out", 3
@@ -90,6 +96,12 @@ def cases(shown):
     yield ["dump", "overlap.nft"], overlap + failed, None, 1
     yield ["list", "overlap.nft", "--keep-going"], overlap, None, 1
     yield ["run", "overlap.nft", "empty.pcap"], overlap, None, 1
+    judge = ["judge", "unmet.nft"]
+    yield [*judge, "rules", "unmet.keys"], unmet, None, 0
+    yield [*judge, "rules", "met.keys"], "", None, 0
+    yield [*judge, "rules", "empty.pcap"], "", None, 0
+    out = "'out' is never met: no packet has a key for inet filter blocked (ipv4_addr); the keys here are of ipv4_addr . inet_service\nout inet filter blocked accept\n^^^\n"
+    yield [*judge, "twelve.rules", "unmet.keys"], "".join(f"twelve.rules:{line}:1: {out}" for line in range(2, 12)) + "twelve.rules: 2 more tests are never met\n", None, 0
     for name, line, column, said, why in [
         ("character.nft", 2, 22, "'$' is an unexpected character", "character"),
         ("end.nft", 2, 25, "the end of the text leaves the '{' of line 2 open", "end"),
@@ -245,7 +257,8 @@ def shown_in(formats):
         text = file.read().split("## The standard error\n")[1].split("\n## ")[0]
     left_out = re.search(r"(    x\.nft:5:3: .*\n(?:    .*\n){3})", text)[1]
     overlap, failed = re.search(r"    (x\.nft:6:3: .*\n)    (x\.nft: .*\n)", text).groups()
-    return re.sub("^    ", "", left_out, flags=re.M), overlap.replace("x.nft", "overlap.nft"), failed.replace("x.nft", "overlap.nft")
+    unmet = re.search(r"(    rules:1:14: .*\n(?:    .*\n){2})", text)[1]
+    return re.sub("^    ", "", left_out, flags=re.M), overlap.replace("x.nft", "overlap.nft"), failed.replace("x.nft", "overlap.nft"), re.sub("^    ", "", unmet, flags=re.M)
 
 
 def main():

@@ -1,5 +1,6 @@
 //! What a person reads beside the output.
 use crate::calls::{File, NOTHING, RUN, RUN_ON, Wanted, check_failing};
+use crate::other_files::UDP;
 use std::test::Fail;
 
 const PORTS: &[u8] = b"add set ip t p { type inet_service ; }\n";
@@ -13,6 +14,9 @@ const TAKEN_BACK: &[u8] =
 const EIGHTEEN_SECTIONS: &[u8] =
     b"add set ip t p { type inet_service ; }\nround\nround\nround\nround\nround\nround\nround\nround\nround\nround\nround\nround\nround\nround\nround\nround\nround\n";
 
+const ADDRESSES_BESIDE_PAIRS: &[u8] =
+    b"add set inet f bad { type ipv4_addr ; }\nadd set inet f web { type ipv4_addr . inet_service ; }\nadd element inet f web { 10.0.0.1 . 80 }\n";
+
 /// A call and its note for a person.
 struct Noted {
     words: &'static [&'static str],
@@ -22,7 +26,7 @@ struct Noted {
     status: u8,
 }
 
-const CALLS: [Noted; 11] = [
+const CALLS: [Noted; 13] = [
     // the place of a bad token
     Noted {
         words: &["list", "a.nft"],
@@ -109,6 +113,36 @@ const CALLS: [Noted; 11] = [
         notes: b"a.nft: the script has 18 sections, and desk runs 17 at most: the first, and one for each of 16 control threads; join some, by leaving lines 'round' out\n",
         output: b"pipapo: too many clerks: a.nft\n",
         status: 12,
+    },
+    // tests that no packet can meet, by the keys and by the plan
+    Noted {
+        words: &["judge", "a.nft", "rules", "keys"],
+        files: &[
+            ("a.nft", ADDRESSES_BESIDE_PAIRS),
+            (
+                "rules",
+                b"chain m { in inet f bad drop ; out inet f bad in inet f web accept }\npolicy drop\n",
+            ),
+            ("keys", b"inet f web 10.0.0.1 . 80\n"),
+        ],
+        notes: b"rules:1:11: 'in' is never met: no packet has a key for inet f bad (ipv4_addr); the keys here are of ipv4_addr . inet_service\nchain m { in inet f bad drop ; out inet f bad in ine..\n          ^^\nrules:1:32: 'out' is never met: no packet has a key for inet f bad (ipv4_addr); the keys here are of ipv4_addr . inet_service\nchain m { in inet f bad drop ; out inet f bad in inet f web accept }\n                               ^^^\n",
+        output: b"commit generation 1 purged 0\npacket 0 thread 0 generation 1 policy drop\n",
+        status: 0,
+    },
+    Noted {
+        words: &["judge", "a.nft", "rules", "plan", "pcap"],
+        files: &[
+            (
+                "a.nft",
+                b"add set filter s { type ipv4_addr . inet_service ; }\nadd set filter p { type inet_service ; }\n",
+            ),
+            ("rules", b"chain m { in ip filter p drop }\npolicy drop\n"),
+            ("plan", b"ip filter s ip_saddr . dport\n"),
+            ("pcap", &UDP),
+        ],
+        notes: b"rules:1:11: 'in' is never met: no packet has a key for ip filter p (inet_service); the keys here are of ipv4_addr . inet_service\nchain m { in ip filter p drop }\n          ^^\n",
+        output: b"commit generation 1 purged 0\npacket 0 thread 0 generation 1 policy drop\n",
+        status: 0,
     },
 ];
 

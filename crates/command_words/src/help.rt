@@ -158,8 +158,10 @@ the standard input.
 
 RULES has one to four chains, each in braces, and then the policy. A rule has up to four tests, and
 then accept, drop, return or jump CHAIN. A test is in or out, and the family, table and name of a
-set: in if the set has an element for the packet, out if it has none. A jump leads to an earlier
-chain. Every packet begins at the last chain:
+set: in if the set has an element for the packet, out if it has none. A packet meets neither if the
+types of the set aren't those of the packet's own set; the standard error names each test that no
+packet can meet for this reason. A jump leads to an earlier chain. Every packet begins at the last
+chain:
 
   chain block { in ip t bad drop }
   chain main { jump block; in ip t ok out ip t late accept }

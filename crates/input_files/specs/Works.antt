@@ -1,6 +1,7 @@
 -- What a command works on, by the texts of its files.
-use Rattle.std.specs.Prelude.{◌≡◌, ◌≤◌, ◌<◌, ℕ, List, Option, All, map}
+use Rattle.std.specs.Prelude.{◌≡◌, ◌≤◌, ◌<◌, ℕ, List, Option, Some, All, map}
 use Rattle.set_model.specs.declared.script.Script.{Script}
+use Rattle.set_model.specs.declared.script.SetDecl.{SetDecl}
 use Rattle.std.specs.String.{string_bytes}
 use Rattle.set_model.specs.Runnable.{IsRunnable, IsFitting}
 use Rattle.set_script.specs.ScriptText.{IsScriptText}
@@ -12,6 +13,7 @@ use Rattle.pcap_keys.specs.CapturedPackets.{IsCapture}
 use Rattle.pcap_keys.specs.Fitting.{HasValues, IsPlanned}
 use Rattle.pcap_keys.specs.PlansText.{IsPlanText}
 use Rattle.command_words.specs.Words.{Command, run, list, dump, drill, judge, capture, desk, get, explain, compare, stat, judge_capture, sets_of}
+use Rattle.input_files.specs.declared.files.RulesFile.{RulesFile}
 use Rattle.input_files.specs.declared.work.Work.{Work}
 use Rattle.input_files.specs.declared.work.Work.TheVariants as works
 use Rattle.input_files.specs.Inputs.{ReadsAs}
@@ -23,6 +25,11 @@ pub record AreSetsOf (text kept : List ℕ) (skips : List Skipped) : Type 0 wher
   pub is_script : IsScriptText kept script
   pub skips_are : skips ≡ notes text
 
+-- A rules file for the sets of a script has these chains, and this text, if its bytes are known.
+pub record IsRulesFile (told : List ℕ → Option (List ℕ)) (sets : List SetDecl) (file : RulesFile) : Type 0 where
+  pub read : ReadsAs told file.name.now (λ text. IsRulesText sets text (file.chains.chains, file.chains.accept))
+  pub is_text : (text : List ℕ) → told file.name.now ≡ Some text → file.text.items ≡ text
+
 -- This is what a command works on: what the texts of its files mean, and the options of its words.
 abbrev pub IsWork : (List ℕ → Option (List ℕ)) → Command → Work → Type 0
 IsWork told c (works.Run script keys threads keep_going) =
@@ -31,12 +38,12 @@ IsWork told c (works.List script keep_going) = (s : List ℕ) × (c ≡ list s k
 IsWork told c (works.Dump script keep_going) = (s : List ℕ) × (c ≡ dump s keep_going) × ReadsAs told s (λ text. IsScriptText text script)
 IsWork told c (works.Stat script keep_going) = (s : List ℕ) × (c ≡ stat s keep_going) × ReadsAs told s (λ text. IsScriptText text script)
 IsWork told c (works.Drill seed count threads) = c ≡ drill seed count threads
-IsWork told c (works.Judge script chains keys threads keep_going) =
-    (s : List ℕ) × (r : List ℕ) × (k : List ℕ) × (c ≡ judge s r k threads keep_going) × ReadsAs told s (λ text. IsScriptText text script)
-    × ReadsAs told r (λ text. IsRulesText script.schema text (chains.chains, chains.accept)) × ReadsAs told k (λ text. IsKeysText script.schema text keys)
-IsWork told c (works.JudgeCapture script chains plan frames threads keep_going) =
-    (s : List ℕ) × (r : List ℕ) × (p : List ℕ) × (f : List ℕ) × (c ≡ judge_capture s r p f threads keep_going) × ReadsAs told s (λ text. IsScriptText text script)
-    × ReadsAs told r (λ text. IsRulesText script.schema text (chains.chains, chains.accept)) × ReadsAs told p (λ text. IsPlanText script.schema text plan) × ReadsAs told f (λ text. IsCapture text frames)
+IsWork told c (works.Judge script file keys threads keep_going) =
+    (s : List ℕ) × (k : List ℕ) × (c ≡ judge s file.name.now k threads keep_going) × ReadsAs told s (λ text. IsScriptText text script)
+    × IsRulesFile told script.schema file × ReadsAs told k (λ text. IsKeysText script.schema text keys)
+IsWork told c (works.JudgeCapture script file plan frames threads keep_going) =
+    (s : List ℕ) × (p : List ℕ) × (f : List ℕ) × (c ≡ judge_capture s file.name.now p f threads keep_going) × ReadsAs told s (λ text. IsScriptText text script)
+    × IsRulesFile told script.schema file × ReadsAs told p (λ text. IsPlanText script.schema text plan) × ReadsAs told f (λ text. IsCapture text frames)
 IsWork told c (works.Capture script plan frames threads keep_going) =
     (s : List ℕ) × (p : List ℕ) × (f : List ℕ) × (c ≡ capture s p f threads keep_going) × ReadsAs told s (λ text. IsScriptText text script)
     × ReadsAs told p (λ text. IsPlanText script.schema text plan) × ReadsAs told f (λ text. IsCapture text frames)
@@ -58,8 +65,8 @@ IsDoable (works.List script keep_going) = IsRunnable script
 IsDoable (works.Dump script keep_going) = IsRunnable script
 IsDoable (works.Stat script keep_going) = IsRunnable script
 IsDoable (works.Drill seed count threads) = FewThreads threads
-IsDoable (works.Judge script chains keys threads keep_going) = IsRunnable script × (chains.schema ≡ script.schema) × All (All (IsFitting script.schema)) keys × FewThreads threads
-IsDoable (works.JudgeCapture script chains plan frames threads keep_going) = IsRunnable script × (chains.schema ≡ script.schema) × All (IsPlanned script.schema) plan × All HasValues frames × FewThreads threads
+IsDoable (works.Judge script file keys threads keep_going) = IsRunnable script × (file.chains.schema ≡ script.schema) × All (All (IsFitting script.schema)) keys × FewThreads threads
+IsDoable (works.JudgeCapture script file plan frames threads keep_going) = IsRunnable script × (file.chains.schema ≡ script.schema) × All (IsPlanned script.schema) plan × All HasValues frames × FewThreads threads
 IsDoable (works.Capture script plan frames threads keep_going) = IsRunnable script × All (IsPlanned script.schema) plan × All HasValues frames × FewThreads threads
 IsDoable (works.Desk script keep_going) = IsRunnable script
 IsDoable (works.Get script key moment keep_going) = IsRunnable script

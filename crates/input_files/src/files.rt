@@ -197,6 +197,14 @@ pub fn keys_of<'a, F: Shelf, N: Notes>(
     }
 }
 
+/// A rules file: its name, its text, and the chains that it means.
+#[derive(Drop)]
+pub struct RulesFile<'a> {
+    pub name: &'a str,
+    pub text: Vec<u8>,
+    pub chains: Chains,
+}
+
 /// The rules file with this name, for the sets of a script.
 pub fn rules_of<'a, F: Shelf, N: Notes>(
     alloc: Global,
@@ -206,11 +214,13 @@ pub fn rules_of<'a, F: Shelf, N: Notes>(
     skipped: &mut Skips,
     schema: &Schema,
     name: &'a str,
-) -> Result<Chains, FileFault<'a>>
+) -> Result<RulesFile<'a>, FileFault<'a>>
     requires asked { length (F.asked shelf.old) ≤ 3 }
     requires sets { length schema.now ≤ most_sets }
-    ensures schema { IfOk result (λ c. c.schema ≡ schema.now) }
-    ensures read { IfOk result (λ c. ReadsAs (seen (ruleset_names rulesets.entry) (F.told shelf.old)) name.now (λ text. IsRulesText schema.now text (c.chains, c.accept))) }
+    ensures schema { IfOk result (λ f. f.chains.schema ≡ schema.now) }
+    ensures name { IfOk result (λ f. f.name ≡ name.entry) }
+    ensures text { IfOk result (λ f. (text : List ℕ) → seen (ruleset_names rulesets.entry) (F.told shelf.old) name.now ≡ Some text → f.text.items ≡ text) }
+    ensures read { IfOk result (λ f. ReadsAs (seen (ruleset_names rulesets.entry) (F.told shelf.old)) name.now (λ text. IsRulesText schema.now text (f.chains.chains, f.chains.accept))) }
     ensures quiet { OnOk result ((F.asked shelf.new ≡ F.asked shelf.old ++ name.now ∷ []) × (F.faults shelf.new ≡ F.faults shelf.old)) }
     ensures whole { OnOk result (ReadsToEnd (F.is_picked shelf.old) (F.is_picked shelf.new) (F.left shelf.new)) }
     ensures kept { KeepsLeft (F.is_picked shelf.old) (F.is_picked shelf.new) (F.left shelf.old) (F.left shelf.new) }
@@ -227,7 +237,7 @@ pub fn rules_of<'a, F: Shelf, N: Notes>(
     };
     let bytes = text.as_slice();
     match read_rules(alloc, schema, bytes) {
-        Ok(rules) => Ok(rules),
+        Ok(chains) => Ok(RulesFile { name, text, chains }),
         Err(FormError::Bad { line, reason }) => {
             let found = rule_chain::bad_token(alloc, schema, bytes);
             let sets = ScriptSets { schema, skipped };

@@ -32,6 +32,7 @@ mod told;
 mod work;
 
 pub use fault::{FileFault, Flaw};
+pub use files::RulesFile;
 pub use left_out::ScriptSets;
 pub use seen::{Rulesets, Skips};
 pub use work::{Work, work_of};

@@ -8,13 +8,14 @@ ghost use Rattle.input_files.specs.Seen.{AreAllSkips, KeepsAll, ruleset_names, s
 ghost use Rattle.input_files.specs.Works.{IsWork, IsDoable};
 
 use crate::fault::FileFault;
-use crate::files::{capture_of, keys_of, plan_of, rules_of, script_of, second_script_of};
+use crate::files::{
+    RulesFile, capture_of, keys_of, plan_of, rules_of, script_of, second_script_of,
+};
 use crate::rulesets::{SetsRead, sets_of};
 use crate::seen::{Rulesets, Skips};
 use command_words::{Command, Task};
 use pcap_keys::{Frames, Plan};
 use pip_base::{Notes, Shelf};
-use rule_chain::Chains;
 use ruleset_sets::Sieved;
 use set_model::{Keys, Script};
 use std::alloc::Global;
@@ -56,7 +57,7 @@ pub enum Work<'a> {
     /// them.
     Judge {
         script: Script,
-        chains: Chains,
+        rules: RulesFile<'a>,
         keys: Keys,
         threads: u32,
         keep_going: bool,
@@ -65,7 +66,7 @@ pub enum Work<'a> {
     /// threads look them up, and chains of rules judge them.
     JudgeCapture {
         script: Script,
-        chains: Chains,
+        rules: RulesFile<'a>,
         plan: Plan,
         frames: Frames,
         threads: u32,
@@ -194,7 +195,7 @@ pub fn work_of<'a, F: Shelf, N: Notes>(
                     keys,
                     threads,
                 } => {
-                    let chains = match rules_of(
+                    let file = match rules_of(
                         alloc,
                         shelf,
                         notes,
@@ -203,13 +204,13 @@ pub fn work_of<'a, F: Shelf, N: Notes>(
                         &script.schema,
                         rules,
                     ) {
-                        Ok(chains) => chains,
+                        Ok(file) => file,
                         Err(fault) => return Err(fault),
                     };
                     match keys_of(alloc, shelf, notes, rulesets, skipped, &script.schema, keys) {
                         Ok(keys) => Ok(Work::Judge {
                             script,
-                            chains,
+                            rules: file,
                             keys,
                             threads,
                             keep_going,
@@ -261,7 +262,7 @@ pub fn work_of<'a, F: Shelf, N: Notes>(
                     packets,
                     threads,
                 } => {
-                    let chains = match rules_of(
+                    let file = match rules_of(
                         alloc,
                         shelf,
                         notes,
@@ -270,7 +271,7 @@ pub fn work_of<'a, F: Shelf, N: Notes>(
                         &script.schema,
                         rules,
                     ) {
-                        Ok(chains) => chains,
+                        Ok(file) => file,
                         Err(fault) => return Err(fault),
                     };
                     let plan = match plan_of(
@@ -288,7 +289,7 @@ pub fn work_of<'a, F: Shelf, N: Notes>(
                     match capture_of(alloc, shelf, notes, rulesets, skipped, packets) {
                         Ok(frames) => Ok(Work::JudgeCapture {
                             script,
-                            chains,
+                            rules: file,
                             plan,
                             frames,
                             threads,

@@ -293,6 +293,6 @@ promises c g = record {
   shelf_count = λ moved. shelf-moved c.words c.shelf c.taken_before c.taken_now c.faults_before c.faults_now c.status g.ends moved;
   sink_count = λ moved. sink-moved c.words c.shelf c.taken_before c.taken_now c.faults_before c.faults_now c.status g.ends moved;
   noted = g.noted;
-  no_note = λ e other. no-note c g.noted e other;
+  no_note = λ e other d is_d. no-note c g.noted e other d is_d;
   page_without_note = λ p asks. page-quiet c p asks g.noted;
 }

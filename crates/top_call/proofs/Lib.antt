@@ -5,5 +5,6 @@ mod Noting
 mod Completed
 mod Exact
 pub mod Outputs
+mod UnmetLines
 mod Goings
 mod FormLaws

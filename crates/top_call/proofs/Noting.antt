@@ -1,7 +1,8 @@
 -- The note for a person beside a call's output.
-use Rattle.std.proofs.Common.{◌≡◌, ◌∙◌, ap, ◌≤◌, refl, subst, ℕ, Bool, true, List, Option, inl, inr, arith, false, [], ◌∷◌, ◌⊎◌, None, Result, Ok, Err, OnOk, OnErr}
+use Rattle.std.proofs.Common.{◌≡◌, ◌∙◌, ap, ◌≤◌, refl, sym, subst, ℕ, Bool, true, List, Option, inl, inr, arith, false, [], ◌∷◌, ◌⊎◌, None, Result, Ok, Err, OnOk, OnErr}
 use Rattle.command_words.specs.declared.page.Page.{Page}
 use Rattle.command_words.specs.Words.{Command, IsCommand, IsNoCommand, IsSetsCommand, AsksFor, desk, get, compare, sets_of}
+use Rattle.command_words.proofs.CommandWords.{one-command}
 use Rattle.command_words.proofs.PageWords.{page-no-command}
 use Rattle.std.proofs.Common.{codes}
 use Rattle.token_notes.specs.Shown.{Begins, BeginsAtPlace, name_text}
@@ -17,7 +18,7 @@ use Rattle.input_files.specs.Reads.{Shelved}
 use Rattle.top_call.specs.Calls.{Call}
 use Rattle.top_call.specs.Causes.{HasManySections, HasNoKey}
 use Rattle.top_call.specs.Lines.{done_status, file_status}
-use Rattle.top_call.specs.Answers.{Ends, written, cut, memory, IsExactly, HasOutput}
+use Rattle.top_call.specs.Answers.{Ends, written, cut, memory, IsComplete, IsExactly, HasOutput}
 use Rattle.key_answer.specs.declared.question.AnswerError.{AnswerError}
 use Rattle.key_answer.specs.declared.question.AnswerError.TheVariants as errors
 use Rattle.top_call.specs.Noted.{Ended, IsDueNote, IsErrorNote, TellsError, words_front, on_words, on_file, on_sections, on_key, on_changes, on_skips, AreSkipsOf, IsNoted}
@@ -29,6 +30,7 @@ use Rattle.command_words.specs.declared.words.Task.TheVariants as tasks
 use Rattle.command_words.specs.WordForms.{plain_task}
 use Rattle.input_files.specs.Inputs.{ReadsAs, script, rules_of_nft, second as second_form, keys as keys_form, rules as rules_form, plan as plan_form, capture as capture_form}
 use Rattle.top_call.specs.Refused.{AreRefused, HasNothingToTell, HasTold, IsNoteDue, IsNoteOnChanges, NamesScript, TellsChanges, TellsOf}
+use Rattle.top_call.specs.Unmet.{SaysUnmet, TellsUnmet}
 use Rattle.top_call.proofs.Endings.{file-above}
 
 -- A call whose status and text are due ends with that status, or its sink failed.
@@ -113,48 +115,61 @@ page-due words shelf status text p asks (on_changes c name output t refusals fai
 page-due words shelf status text p asks (on_skips file output t refused has is_sets are ended) = page-no-command words p (sets_of file) asks is_sets
 
 module _ (c : Call) where
-  -- With status 0 no note was written, but one on what isn't kept of a ruleset.
-  pub no-note : IsNoted c → c.status ≡ 0 → ((file : List ℕ) → IsSetsCommand c.words file → ⊥) → c.noted_now ≡ c.noted_before
-  no-note (nothing same) e other = same
-  no-note (note text quiet due told) e other = absurd (due-above c.words c.shelf c.status text due e other)
+  abbrev pub IsDueAfter : Option (List ℕ) → Type 0
+  IsDueAfter mid = MayTell (IsDueNote c.words c.shelf c.status) mid c.noted_now
+
+  -- There is no output, and nothing is written on tests.
+  pub untested : (IsComplete c.status → ⊥) → IsDueAfter c.noted_before → IsNoted c
+  untested undone other = record { noted = c.noted_before; tests = inl refl; all_tests = λ e. absurd (undone e); other = other }
+
+  -- All files were read, and the lines on the tests were written.
+  pub tested : (d : Command) → IsCommand c.words d → (mid : Option (List ℕ)) → TellsUnmet c.shelf.told d c.noted_before mid → IsDueAfter mid → IsNoted c
+  tested d is_d mid tests other =
+      record { noted = mid; tests = inr (d, is_d, tests); all_tests = λ e x is_x. subst (λ (y : Command). TellsUnmet c.shelf.told y c.noted_before mid) (one-command c.words d x is_d is_x) tests; other = other }
+
+  -- With status 0 no note was written, but the lines on tests, and one on what isn't kept of a ruleset.
+  pub no-note : IsNoted c → c.status ≡ 0 → ((file : List ℕ) → IsSetsCommand c.words file → ⊥) → (d : Command) → IsCommand c.words d → TellsUnmet c.shelf.told d c.noted_before c.noted_now
+  no-note n e other d is_d = subst (λ (b : Option (List ℕ)). TellsUnmet c.shelf.told d c.noted_before b) (sym (still n.other)) (n.all_tests (inl e) d is_d) where
+    still : IsDueAfter n.noted → c.noted_now ≡ n.noted
+    still (nothing same) = same
+    still (note text quiet due told) = absurd (due-above c.words c.shelf c.status text due e other)
 
   -- With a page no note was written.
   pub page-quiet : (p : Page) → AsksFor c.words p → IsNoted c → c.noted_now ≡ c.noted_before
-  page-quiet p asks (nothing same) = same
-  page-quiet p asks (note text quiet due told) = absurd (page-due c.words c.shelf c.status text p asks due)
+  page-quiet p asks n = still n.other ∙ untold n.tests where
+    still : IsDueAfter n.noted → c.noted_now ≡ n.noted
+    still (nothing same) = same
+    still (note text quiet due told) = absurd (page-due c.words c.shelf c.status text p asks due)
+
+    untold : SaysUnmet c.words c.shelf.told c.noted_before n.noted → n.noted ≡ c.noted_before
+    untold (inl same) = same
+    untold (inr tells) = absurd (page-no-command c.words p tells.0 asks tells.1)
 
   -- The note on words that are no command is due.
-  pub words-noted : IsNoCommand c.words → Ended 2 c.status → MayTell (Begins words_front) c.noted_before c.noted_now → IsNoted c
+  pub words-noted : IsNoCommand c.words → Ended 2 c.status → MayTell (Begins words_front) c.noted_before c.noted_now → IsDueAfter c.noted_before
   words-noted none ended tells = tells-as (Begins words_front) (IsDueNote c.words c.shelf c.status) c.noted_before c.noted_now (λ text is. on_words text none is ended) tells
 
   -- The note on a file that can't be had is due.
-  pub file-noted : (d : Command) (fault : FileFault) → IsCommand c.words d → StopsTelling c.shelf d c.noted_before c.noted_now fault → Ended (file_status fault) c.status → IsNoted c
+  pub file-noted : (d : Command) (fault : FileFault) → IsCommand c.words d → StopsTelling c.shelf d c.noted_before c.noted_now fault → Ended (file_status fault) c.status → IsDueAfter c.noted_before
   file-noted d fault is_d s ended =
       tells-as (IsNoteOn c.shelf.told s.stops.sets s.stops.input.name fault) (IsDueNote c.words c.shelf c.status) c.noted_before c.noted_now (λ text is. on_file d fault s.stops text is_d is ended) s.noted
 
   -- The note on a desk's script with too many sections is due.
-  pub sections-noted : (name : List ℕ) → HasManySections c.words c.shelf name → Ended 12 c.status → (mid : Option (List ℕ)) → mid ≡ c.noted_before → MayTell (Begins (name_text name)) mid c.noted_now → IsNoted c
-  sections-noted name has ended mid silent tells =
-      subst (λ (b : Option (List ℕ)). MayTell (IsDueNote c.words c.shelf c.status) b c.noted_now) silent
-      (tells-as (Begins (name_text name)) (IsDueNote c.words c.shelf c.status) mid c.noted_now (λ text is. on_sections name text has is ended) tells)
+  pub sections-noted : (name : List ℕ) → HasManySections c.words c.shelf name → Ended 12 c.status → (mid : Option (List ℕ)) → MayTell (Begins (name_text name)) mid c.noted_now → IsDueAfter mid
+  sections-noted name has ended mid tells = tells-as (Begins (name_text name)) (IsDueNote c.words c.shelf c.status) mid c.noted_now (λ text is. on_sections name text has is ended) tells
 
   -- The note on words of a `get` that are no key is due.
-  pub key-noted : (line : ℕ) (reason : Reason) → HasNoKey c.words c.shelf line reason → Ended 13 c.status → (mid : Option (List ℕ)) → mid ≡ c.noted_before → MayTell (BeginsAtPlace (codes "key")) mid c.noted_now → IsNoted c
-  key-noted line reason has ended mid silent tells =
-      subst (λ (b : Option (List ℕ)). MayTell (IsDueNote c.words c.shelf c.status) b c.noted_now) silent
-      (tells-as (BeginsAtPlace (codes "key")) (IsDueNote c.words c.shelf c.status) mid c.noted_now (λ text is. on_key line reason text has is ended) tells)
+  pub key-noted : (line : ℕ) (reason : Reason) → HasNoKey c.words c.shelf line reason → Ended 13 c.status → (mid : Option (List ℕ)) → MayTell (BeginsAtPlace (codes "key")) mid c.noted_now → IsDueAfter mid
+  key-noted line reason has ended mid tells = tells-as (BeginsAtPlace (codes "key")) (IsDueNote c.words c.shelf c.status) mid c.noted_now (λ text is. on_key line reason text has is ended) tells
 
   -- The note on refused changes is due.
   pub changes-noted : (d : Command) (refused : Bool) (output : List ℕ) (refusals : List Refusal) (failed : Bool) → HasOutput c.words c.shelf refused output → IsCommand c.words d → AreRefused d c.shelf.told refused output refusals failed
-      → Ended (done_status refused) c.status → (mid : Option (List ℕ)) → mid ≡ c.noted_before → MayTell (IsNoteDue d refused refusals failed) mid c.noted_now → IsNoted c
-  changes-noted d refused output refusals failed has is_d are ended mid silent tells =
-      subst (λ (b : Option (List ℕ)). MayTell (IsDueNote c.words c.shelf c.status) b c.noted_now) silent
-      (tells-as (IsNoteDue d refused refusals failed) (IsDueNote c.words c.shelf c.status) mid c.noted_now
-      (λ text is. on_changes d is.0 output text refusals failed (subst (λ (r : Bool). HasOutput c.words c.shelf r output) is.2 has) is_d is.1 (subst (λ (r : Bool). AreRefused d c.shelf.told r output refusals failed) is.2 are) is.3 (subst (λ (r : Bool). Ended (done_status r) c.status) is.2 ended)) tells)
+      → Ended (done_status refused) c.status → (mid : Option (List ℕ)) → MayTell (IsNoteDue d refused refusals failed) mid c.noted_now → IsDueAfter mid
+  changes-noted d refused output refusals failed has is_d are ended mid tells =
+      tells-as (IsNoteDue d refused refusals failed) (IsDueNote c.words c.shelf c.status) mid c.noted_now
+      (λ text is. on_changes d is.0 output text refusals failed (subst (λ (r : Bool). HasOutput c.words c.shelf r output) is.2 has) is_d is.1 (subst (λ (r : Bool). AreRefused d c.shelf.told r output refusals failed) is.2 are) is.3 (subst (λ (r : Bool). Ended (done_status r) c.status) is.2 ended)) tells
 
   -- The note on what isn't kept of a ruleset is due.
   pub skips-noted : (file : List ℕ) (refused : Bool) (output : List ℕ) → HasOutput c.words c.shelf refused output → IsSetsCommand c.words file → Ended (done_status refused) c.status
-      → (mid : Option (List ℕ)) → mid ≡ c.noted_before → MayTell (AreSkipsOf c.shelf.told file) mid c.noted_now → IsNoted c
-  skips-noted file refused output has is_sets ended mid silent tells =
-      subst (λ (b : Option (List ℕ)). MayTell (IsDueNote c.words c.shelf c.status) b c.noted_now) silent
-      (tells-as (AreSkipsOf c.shelf.told file) (IsDueNote c.words c.shelf c.status) mid c.noted_now (λ text are. on_skips file output text refused has is_sets are ended) tells)
+      → (mid : Option (List ℕ)) → MayTell (AreSkipsOf c.shelf.told file) mid c.noted_now → IsDueAfter mid
+  skips-noted file refused output has is_sets ended mid tells = tells-as (AreSkipsOf c.shelf.told file) (IsDueNote c.words c.shelf c.status) mid c.noted_now (λ text are. on_skips file output text refused has is_sets are ended) tells

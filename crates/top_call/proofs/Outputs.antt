@@ -47,26 +47,26 @@ is-output told c (works.Capture s plan frames n g) refused text w h = subst (λ 
   text = h.0.text_is;
   refusal = h.1;
 })
-is-output told c (works.Judge s chains packets n g) refused text w h = subst (λ (x : Command). IsOutput x told refused text) (sym w.3) (λ script_text rules_text keys_text at at_rules at_keys. record {
+is-output told c (works.Judge s file packets n g) refused text w h = subst (λ (x : Command). IsOutput x told refused text) (sym w.2) (λ script_text rules_text keys_text at at_rules at_keys. record {
   script = s;
-  rules = record { schema = chains.schema; chains = chains.chains; accept = chains.accept };
+  rules = record { schema = file.chains.schema; chains = file.chains.chains; accept = file.chains.accept };
   keys = packets;
   lines = h.0.lines;
-  script_is = (w.4 script_text at).1;
-  rules_are = record { over = h.0.over; is_text = (w.5 rules_text at_rules).1 };
-  keys_are = (w.6 keys_text at_keys).1;
+  script_is = (w.3 script_text at).1;
+  rules_are = record { over = h.0.over; is_text = (w.4.read rules_text at_rules).1 };
+  keys_are = (w.5 keys_text at_keys).1;
   legal = h.0.legal;
   text = h.0.text_is;
   refusal = h.1;
 })
-is-output told c (works.JudgeCapture s chains plan frames n g) refused text w h = subst (λ (x : Command). IsOutput x told refused text) (sym w.4) (λ script_text rules_text plan_text capture_text at at_rules at_plan at_capture. record {
+is-output told c (works.JudgeCapture s file plan frames n g) refused text w h = subst (λ (x : Command). IsOutput x told refused text) (sym w.3) (λ script_text rules_text plan_text capture_text at at_rules at_plan at_capture. record {
   script = s;
-  rules = record { schema = chains.schema; chains = chains.chains; accept = chains.accept };
+  rules = record { schema = file.chains.schema; chains = file.chains.chains; accept = file.chains.accept };
   packets = planned_packets plan frames;
   lines = h.0.lines;
-  script_is = (w.5 script_text at).1;
-  rules_are = record { over = h.0.over; is_text = (w.6 rules_text at_rules).1 };
-  captured = record { plan = plan; frames = frames; is_plan = (w.7 plan_text at_plan).1; is_capture = (w.8 capture_text at_capture).1; made = refl };
+  script_is = (w.4 script_text at).1;
+  rules_are = record { over = h.0.over; is_text = (w.5.read rules_text at_rules).1 };
+  captured = record { plan = plan; frames = frames; is_plan = (w.6 plan_text at_plan).1; is_capture = (w.7 capture_text at_capture).1; made = refl };
   legal = h.0.legal;
   text = h.0.text_is;
   refusal = h.1;
@@ -85,8 +85,8 @@ are-refused told c (works.List s g) out w h = subst (λ (x : Command). AreRefuse
 are-refused told c (works.Dump s g) out w h = subst (λ (x : Command). AreRefused x told out.refused out.text.items out.refusals.items out.failed) (sym w.1) (λ text at. (s, (w.2 text at).1, h.0.refusals_are, h.1))
 are-refused told c (works.Stat s g) out w h = subst (λ (x : Command). AreRefused x told out.refused out.text.items out.refusals.items out.failed) (sym w.1) (λ text at. (s, (w.2 text at).1, h.0.refusals_are, h.1))
 are-refused told c (works.Capture s plan frames n g) out w h = subst (λ (x : Command). AreRefused x told out.refused out.text.items out.refusals.items out.failed) (sym w.3) (λ text at. (s, (w.4 text at).1, h.0.refusals_are, h.1))
-are-refused told c (works.Judge s chains packets n g) out w h = subst (λ (x : Command). AreRefused x told out.refused out.text.items out.refusals.items out.failed) (sym w.3) (λ text at. (s, (w.4 text at).1, h.0.refusals_are, h.1))
-are-refused told c (works.JudgeCapture s chains plan frames n g) out w h = subst (λ (x : Command). AreRefused x told out.refused out.text.items out.refusals.items out.failed) (sym w.4) (λ text at. (s, (w.5 text at).1, h.0.refusals_are, h.1))
+are-refused told c (works.Judge s file packets n g) out w h = subst (λ (x : Command). AreRefused x told out.refused out.text.items out.refusals.items out.failed) (sym w.2) (λ text at. (s, (w.3 text at).1, h.0.refusals_are, h.1))
+are-refused told c (works.JudgeCapture s file plan frames n g) out w h = subst (λ (x : Command). AreRefused x told out.refused out.text.items out.refusals.items out.failed) (sym w.3) (λ text at. (s, (w.4 text at).1, h.0.refusals_are, h.1))
 are-refused told c (works.Desk s g) out w h = subst (λ (x : Command). AreRefused x told out.refused out.text.items out.refusals.items out.failed) (sym w.1) (λ text at. (s, (w.2 text at).1, h.desk, h.refusals_are, h.failed_is))
 are-refused told c (works.Get s key moment g) out w h = subst (λ (x : Command). AreRefused x told out.refused out.text.items out.refusals.items out.failed) (sym w.1) (λ text at. (s, (w.2 text at).1, h.0.refusals_are, h.1))
 are-refused told c (works.Explain s packets g) out w h = subst (λ (x : Command). AreRefused x told out.refused out.text.items out.refusals.items out.failed) (sym w.2) (λ text at. (s, (w.3 text at).1, h.0.refusals_are, h.1))

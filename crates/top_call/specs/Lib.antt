@@ -4,6 +4,7 @@ pub mod Calls
 pub mod Causes
 pub mod Names
 pub mod Answers
+pub mod Unmet
 pub mod Noted
 pub mod Exactly
 pub mod Promises

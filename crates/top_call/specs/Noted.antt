@@ -15,8 +15,9 @@ use Rattle.top_call.specs.Calls.{Call}
 use Rattle.top_call.specs.Causes.{HasManySections, HasNoKey}
 use Rattle.top_call.specs.Lines.{done_status, file_status}
 use Rattle.script_laws.specs.declared.refusals.Refusal.{Refusal}
-use Rattle.top_call.specs.Answers.{HasOutput}
+use Rattle.top_call.specs.Answers.{HasOutput, IsComplete}
 use Rattle.top_call.specs.Refused.{AreRefused, IsNoteOnChanges, NamesScript}
+use Rattle.top_call.specs.Unmet.{SaysUnmet, TellsUnmet}
 
 -- A call has this status, or its sink failed.
 abbrev pub Ended : ℕ → ℕ → Type 0
@@ -54,6 +55,10 @@ pub data IsDueNote (words : List (List ℕ)) (shelf : Shelved) (status : ℕ) : 
   on_changes : (c : Command) (name output text : List ℕ) (refusals : List Refusal) (failed : Bool) → HasOutput words shelf true output → IsCommand words c → NamesScript c name → AreRefused c shelf.told true output refusals failed → IsNoteOnChanges name refusals failed text → Ended 1 status → IsDueNote words shelf status text
   on_skips : (file output text : List ℕ) (refused : Bool) → HasOutput words shelf refused output → IsSetsCommand words file → AreSkipsOf shelf.told file text → Ended (done_status refused) status → IsDueNote words shelf status text
 
--- A call writes no note, or one note that is due.
-abbrev pub IsNoted : Call → Type 0
-IsNoted c = MayTell (IsDueNote c.words c.shelf c.status) c.noted_before c.noted_now
+-- A call first writes the lines on the tests of its rules that no packet can meet: all of them, if its whole output was written.
+-- After them it writes no note, or one note that is due.
+pub record IsNoted (c : Call) : Type 0 where
+  pub noted : Option (List ℕ)
+  pub tests : SaysUnmet c.words c.shelf.told c.noted_before noted
+  pub all_tests : IsComplete c.status → (d : Command) → IsCommand c.words d → TellsUnmet c.shelf.told d c.noted_before noted
+  pub other : MayTell (IsDueNote c.words c.shelf c.status) noted c.noted_now

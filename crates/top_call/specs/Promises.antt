@@ -2,7 +2,7 @@
 -- each cause has its status.
 use Rattle.std.specs.Prelude.{◌≡◌, ◌≢◌, ◌⊎◌, ℕ, List}
 use Rattle.command_words.specs.declared.page.Page.{Page}
-use Rattle.command_words.specs.Words.{AsksFor, IsSetsCommand}
+use Rattle.command_words.specs.Words.{Command, AsksFor, IsCommand, IsSetsCommand}
 use Rattle.input_files.specs.Inputs.{FileForm}
 use Rattle.top_call.specs.Calls.{Call, IsQuiet}
 use Rattle.top_call.specs.Lines.{form_status}
@@ -10,6 +10,7 @@ use Rattle.top_call.specs.Names.{AsksInOrder, AsksForAll}
 use Rattle.top_call.specs.Answers.{EndsDuly, IsComplete, Transcribes, Judges, Captures, Lists, Dumps, Weaves, AnswersKeys, ExplainsKeys, Compares, Counts, Drills, TellsPage, TellsReadFault, TellsFlaw, TellsTooMany, TellsBadKey, JudgesCaptures, WritesSets}
 use Rattle.top_call.specs.Exactly.{IsExact, Completes}
 use Rattle.top_call.specs.Noted.{IsNoted}
+use Rattle.top_call.specs.Unmet.{TellsUnmet}
 
 -- All other promises follow from these: how the call ends, which files were read, and which note was written.
 pub record Goes (c : Call) : Type 0 where
@@ -75,9 +76,10 @@ pub record Promises (c : Call) : Type 0 where
   -- The shelf's count rose only with 5 or 6, and the sink's only with 6.
   pub shelf_count : c.shelf.faults_now ≢ c.shelf.faults_before → (c.status ≡ 5) ⊎ (c.status ≡ 6)
   pub sink_count : c.faults_now ≢ c.faults_before → c.status ≡ 6
-  -- No note is written; or one on words that are no command, on why and in which place a file can't be had, or on the
-  -- refused changes, or on what isn't kept of a ruleset. With status 0 only this last one is written. If the words ask for a page
-  -- there is none.
+  -- First come the lines on the tests of rules that no packet can meet: exactly these tests, by the definition, if the whole output
+  -- was written. They come with a `judge` alone. After them no note is written; or one on words that are no command, on why and in
+  -- which place a file can't be had, or on the refused changes, or on what isn't kept of a ruleset. With status 0 only this last one
+  -- is written, and beside it exactly those lines. If the words ask for a page there is no note.
   pub noted : IsNoted c
-  pub no_note : c.status ≡ 0 → ((file : List ℕ) → IsSetsCommand c.words file → ⊥) → c.noted_now ≡ c.noted_before
+  pub no_note : c.status ≡ 0 → ((file : List ℕ) → IsSetsCommand c.words file → ⊥) → (d : Command) → IsCommand c.words d → TellsUnmet c.shelf.told d c.noted_before c.noted_now
   pub page_without_note : (p : Page) → AsksFor c.words p → c.noted_now ≡ c.noted_before

@@ -18,6 +18,7 @@ use crate::key_told::tell_error;
 use crate::output::output_of;
 use crate::refusals::{tell_refusals, tell_too_many};
 use crate::sets::{deliver_sets, tell_lines};
+use crate::unmet::tell_unmet;
 use crate::words_told::tell_words;
 use command_words::{Command, ScriptForm, WordsError, command_of, page_of};
 use input_files::{FileFault, Rulesets, Skips, Work, work_of};
@@ -169,22 +170,35 @@ fn do_command<'a, R: Threads + Wait + Sync, F: Shelf, K: Sink, N: Notes, G: Gate
                 sieved,
             },
         ) => deliver_sets(alloc, sink, notes, file, whole.as_slice(), &sieved),
-        Ok(work) => match overfull(command, &work) {
-            Some((name, sections)) => {
-                let _ = tell_too_many(alloc, notes, name, sections);
-                tell(sink, Fault::TooManyClerks(name))
-            }
-            None => match output_of(rt, alloc, work, gate) {
-                Ok(output) => {
-                    let status = deliver(sink, done_status(output.refused), output.text.as_slice());
-                    let _ = tell_refusals(alloc, notes, command, script_text.as_slice(), &output);
-                    with_left_out(command, skipped.leaves_sets_out, status)
+        Ok(work) => match tell_unmet(alloc, notes, &work) {
+            Ok(()) => match overfull(command, &work) {
+                Some((name, sections)) => {
+                    let _ = tell_too_many(alloc, notes, name, sections);
+                    tell(sink, Fault::TooManyClerks(name))
                 }
-                Err(error) => {
-                    let _ = tell_error(alloc, notes, command, &error, &skipped);
-                    tell(sink, answer_fault(&error))
-                }
+                None => match output_of(rt, alloc, work, gate) {
+                    Ok(output) => {
+                        let status = deliver(
+                            sink,
+                            done_status(output.refused),
+                            output.text.as_slice(),
+                        );
+                        let _ = tell_refusals(
+                            alloc,
+                            notes,
+                            command,
+                            script_text.as_slice(),
+                            &output,
+                        );
+                        with_left_out(command, skipped.leaves_sets_out, status)
+                    }
+                    Err(error) => {
+                        let _ = tell_error(alloc, notes, command, &error, &skipped);
+                        tell(sink, answer_fault(&error))
+                    }
+                },
             },
+            Err(_) => tell(sink, Fault::Memory),
         },
         Err(fault) => tell(sink, Fault::File(fault)),
     }
@@ -268,6 +282,9 @@ fn carry_out<R: Threads + Wait + Sync, F: Shelf, K: Sink, N: Notes, G: Gate>(
 ///
 /// If the form is that of rulesets, each script of these words is a ruleset. What is kept of it is the script, and `notes`
 /// first gets a note on the rest.
+///
+/// Of a `judge`, `notes` then gets the lines on the tests of the rules file that no packet can meet. If memory runs out
+/// for them, the status is 7.
 ///
 /// `help`, `--help` or `-h` alone asks for help, and so do `help` before the word of a command and `--help` or
 /// `-h` after it. `--version` or `-V` alone asks for the version. Then the page is written, the status is 0, and

@@ -20,16 +20,16 @@
 //! the sink took nothing. If the sink fails, the status is 6, and the sink may have a front of the text.
 //!
 //! **Notes.** A note for a person explains words that are no command or no key, a bad file, refused changes or what isn't kept
-//! of a ruleset. It changes neither status nor output.
+//! of a ruleset. Of a `judge` the lines on tests that no packet can meet come before it. Neither changes status or output.
 //!
 //! **Outside.** The files, the output, the notes and the gate are traits. Tests use files in memory, and the program
 //! (`pipapo_cli`) uses the system's.
 //!
 //! **Definitions:** `specs/Promises.antt` has the promises, one clause each, and `Calls.antt` what a call shows.
 //! `Transcript.antt`, `Lines.antt` and `Answers.antt` say what is written with which status. `Exactly.antt` says which
-//! status comes when, `Names.antt` which files are opened, and `Noted.antt` which notes are due. docs/definitions.md
-//! lists what they lead to. **Theory:** docs/architecture.md, "The way of a run". **Proofs:** docs/proofs.md, "Causes
-//! and counts (`pip_base`, `input_files`, `pipapo_cli`)".
+//! status comes when, `Names.antt` which files are opened, `Noted.antt` which notes are due, and `Unmet.antt` which
+//! lines on tests come first. docs/definitions.md lists what they lead to. **Theory:** docs/architecture.md, "The way of
+//! a run". **Proofs:** docs/proofs.md, "Causes and counts (`pip_base`, `input_files`, `pipapo_cli`)".
 #![tactic(auto)]
 
 pub mod call;
@@ -40,4 +40,5 @@ mod key_told;
 mod output;
 mod refusals;
 mod sets;
+mod unmet;
 mod words_told;

@@ -82,14 +82,23 @@ pub fn output_of<R: Threads + Wait + Sync, G: Gate>(
         }
         Work::Judge {
             script,
-            chains,
+            rules,
             keys,
             threads,
             keep_going,
-        } => Ok(judged(rt, alloc, script, chains, &keys, keep_going, threads, gate)?),
+        } => Ok(judged(
+            rt,
+            alloc,
+            script,
+            rules.chains,
+            &keys,
+            keep_going,
+            threads,
+            gate,
+        )?),
         Work::JudgeCapture {
             script,
-            chains,
+            rules,
             plan,
             frames,
             threads,
@@ -97,7 +106,14 @@ pub fn output_of<R: Threads + Wait + Sync, G: Gate>(
         } => {
             let packets = captured(alloc, &plan, &frames)?;
             Ok(judged(
-                rt, alloc, script, chains, &packets, keep_going, threads, gate,
+                rt,
+                alloc,
+                script,
+                rules.chains,
+                &packets,
+                keep_going,
+                threads,
+                gate,
             )?)
         }
         Work::Desk { script, keep_going } => {

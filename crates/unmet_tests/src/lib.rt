@@ -5,7 +5,7 @@
 //! the first rule of this chain is never applied:
 //!
 //!     rules:1:14: 'in' is never met: no packet has a key for inet filter blocked (ipv4_addr); the keys here are of ipv4_addr . inet_service
-//!     chain main { in inet filter blocked drop ; in inet filter web accept }
+//!     chain main { in inet filter blocked drop ; in inet filt..
 //!                  ^^
 //!
 //! It is proved that the note is exactly this text for each such test, in the order of the file. After ten tests it

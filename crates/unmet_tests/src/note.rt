@@ -4,10 +4,10 @@ ghost use Rattle.rule_chain.specs.Unmet.{key_types};
 ghost use Rattle.unmet_tests.specs.UnmetText.{most_told, rest_text, test_lines, tests_text, unmet_text};
 
 use crate::words::{append_rest, append_words, mark_of};
-use token_notes::Note;
 use rule_chain::{Chains, Test};
 use set_model::{Memory, SetDecl};
 use std::alloc::Global;
+use token_notes::Note;
 
 /// The most tests that have lines of their own.
 const MOST_TOLD: usize = 10;

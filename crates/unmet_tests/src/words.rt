@@ -3,11 +3,11 @@ ghost use Rattle.std.specs.Prelude.{◌≡◌, ◌++◌, OnOk, decimal, codes};
 ghost use Rattle.unmet_tests.specs.UnmetText.{mark_of as mark_on, more_words as words_on_more, test_word as word_of_test, words_on};
 
 use crate::types::{append_first_types, append_set, append_type};
-use token_notes::Marked;
 use rule_chain::Test;
 use set_model::{Memory, SetDecl};
 use text_pieces::Piece::{Number, Word};
 use text_pieces::{append, append_pieces};
+use token_notes::Marked;
 
 fn test_word(inside: bool) -> &'static [u8]
     ensures { result.now ≡ word_of_test inside }
