@@ -141,7 +141,7 @@ const CALLS: [Noted; 13] = [
             ("pcap", &UDP),
         ],
         notes: b"rules:1:11: 'in' is never met: no packet has a key for ip filter p (inet_service); the keys here are of ipv4_addr . inet_service\nchain m { in ip filter p drop }\n          ^^\n",
-        output: b"commit generation 1 purged 0\npacket 0 thread 0 generation 1 policy drop\n",
+        output: b"packet 0 thread 0 generation 0 policy drop\n",
         status: 0,
     },
 ];
