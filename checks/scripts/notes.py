@@ -72,6 +72,11 @@ FILES = {
     "met.keys": "inet filter web 10.0.0.1 . 80\ninet filter blocked 10.0.0.1\n",
     "rules": "chain main { in inet filter blocked drop ; in inet filter web accept }\npolicy drop\n",
     "twelve.rules": "chain main {\n" + "out inet filter blocked accept\n" * 12 + "}\npolicy drop\n",
+    # a set that is left out of a ruleset, and texts that name it
+    "left.nft": "table ip t {\n\tset m {\n\t\ttype ipv4_addr\n\t\tflags interval\n\t\tauto-merge\n\t}\n\tset s { type ipv4_addr; }\n}\n",
+    "left.keys": "ip t m 192.0.2.1\n",
+    "left.rules": "chain c { in ip t m accept }\npolicy drop\n",
+    "left.plan": "ip t m ip_saddr\n",
     "one_more.nft": PORTS + "".join(f"delete element ip t p {{ {port} }}\n" for port in range(1, 22)),
 }
 
@@ -102,6 +107,16 @@ def cases(shown):
     yield [*judge, "rules", "empty.pcap"], "", None, 0
     out = "'out' is never met: no packet has a key for inet filter blocked (ipv4_addr); the keys here are of ipv4_addr . inet_service\nout inet filter blocked accept\n^^^\n"
     yield [*judge, "twelve.rules", "unmet.keys"], "".join(f"twelve.rules:{line}:1: {out}" for line in range(2, 12)) + "twelve.rules: 2 more tests are never met\n", None, 0
+    why_left = "'m' is left out: 'auto-merge' isn't read here"
+    for words, place, line, output, status in [
+        (["get", "--sets", "left.nft", "ip", "t", "m", "192.0.2.1"], "key:1:6", "ip t m 192.0.2.1 \n     ^", "pipapo: key line 1: set", 13),
+        (["run", "left.nft", "left.keys", "--sets"], "left.keys:1:6", "ip t m 192.0.2.1\n     ^", "pipapo: keys line 1: set", 4),
+        (["judge", "left.nft", "left.rules", "good.keys", "--sets"], "left.rules:1:19", "chain c { in ip t m accept }\n                  ^", "pipapo: rules line 1: set", 9),
+        (["capture", "left.nft", "left.plan", "link.pcap", "--sets"], "left.plan:1:6", "ip t m ip_saddr\n     ^", "pipapo: plan line 1: set", 11),
+    ]:
+        # the lines on the ruleset come once all files are read
+        skipped = "left.nft:2:2: 'set m' is left out: 'auto-merge' isn't read here\n" if words[0] == "get" else ""
+        yield words, f"{skipped}{place}: {why_left}\n{line}\nhelp: name another set, or change the ruleset at left.nft:5:3\n", output, status
     for name, line, column, said, why in [
         ("character.nft", 2, 22, "'$' is an unexpected character", "character"),
         ("end.nft", 2, 25, "the end of the text leaves the '{' of line 2 open", "end"),
