@@ -732,10 +732,10 @@ PLAN_MISTAKES = [
 
 NO_PACKET = "key:1:1: the words name no packet\nhelp: write [FAMILY] TABLE SET VALUE . VALUE ..; a moment in milliseconds comes before the script, as: --at 500\n"
 
-RUN = "usage: pipapo run SCRIPT KEYS [--threads N] [--keep-going] [--sets]"
+RUN = "usage: pipapo run SCRIPT KEYS [--threads N] [--keep-going] [--sets] [--elements]"
 LIST = "usage: pipapo list SCRIPT [--keep-going] [--sets]"
 JUDGE = "usage: pipapo judge SCRIPT RULES KEYS [--threads N] [--keep-going] [--sets]"
-CAPTURE = "usage: pipapo capture SCRIPT PLAN PCAP [--threads N] [--keep-going] [--sets]"
+CAPTURE = "usage: pipapo capture SCRIPT PLAN PCAP [--threads N] [--keep-going] [--sets] [--elements]"
 DRILL = "usage: pipapo drill SEED COUNT [--threads N]"
 COMPARE = "usage: pipapo compare SCRIPT1 SCRIPT2 [--keep-going] [--sets]"
 STAT = "usage: pipapo stat SCRIPT [--keep-going] [--sets]"
@@ -803,6 +803,7 @@ WORD_MISTAKES = [
     ("-a 5 get a t s 1", "'-a' comes before the command", "write options after the command: pipapo get --at 5 .."),
     ("--threads 4 run a b", "'--threads' comes before the command", "write options after the command: pipapo run .. --threads 4"),
     ("--sets run a b", "'--sets' comes before the command", "write options after the command: pipapo run .. --sets"),
+    ("--elements run a b", "'--elements' comes before the command", "write options after the command: pipapo run .. --elements"),
     ("--threads=4 drill 1 2", "'--threads=4' comes before the command", "write options after the command: pipapo drill .. --threads=4"),
     ("--at 5 get a t s 1", "'--at' comes before the command", "write options after the command: pipapo get --at 5 .."),
     ("--keep-going", "'--keep-going' comes before the command", "write options after the command: pipapo COMMAND .. --keep-going"),
@@ -831,12 +832,16 @@ WORD_MISTAKES = [
     ("judge - a -", "'-' is given twice", "only one file can be the standard input"),
     ("run a b --keep-going --keep-going", "'--keep-going' is given twice", TWICE),
     ("run a b --threads 2 --threads=3", "'--threads' is given twice", TWICE),
+    ("run a b --elements --elements", "'--elements' is given twice", TWICE),
+    ("run a b --elements=yes", "'--elements' takes no value", "leave out the '=' and what follows it"),
     ("run a b --keep-going=yes", "'--keep-going' takes no value", "leave out the '=' and what follows it"),
     ("run a b --thread 4", "'--thread' isn't an option", "did you mean '--threads'?"),
     ("list a --keepgoing", "'--keepgoing' isn't an option", "did you mean '--keep-going'?"),
     ("run a b -t 4", "'-t' isn't an option", "did you mean '--threads'?"),
     ("list a -k", "'-k' isn't an option", "did you mean '--keep-going'?"),
     ("compare a b -s", "'-s' isn't an option", "did you mean '--sets'?"),
+    ("run a b -e", "'-e' isn't an option", "did you mean '--elements'?"),
+    ("run a b --element", "'--element' isn't an option", "did you mean '--elements'?"),
     ("get -a 5 a t s 1", "'-a' isn't an option", "did you mean '--at'?"),
     ("run a b -n 4", "'-n' isn't an option", RUN),
     ("list a -t 4", "'-t' isn't an option", LIST),
@@ -847,6 +852,7 @@ WORD_MISTAKES = [
     ("drill --seed 7 --count 5", "'--seed' isn't an option: both numbers come without options", DRILL),
     ("list a --threads 4", "'--threads' isn't an option of this command", LIST),
     ("get --threads 4 a t", "'--threads' isn't an option of this command", GET),
+    ("list a --elements", "'--elements' isn't an option of this command", LIST),
 ]
 
 

@@ -16,7 +16,8 @@ _pipapo() {
         mapfile -t COMPREPLY < <(compgen -W "$(seq 1 16)" -- "$word")
     elif [[ $word == -* ]]; then
         case $command in
-        run | judge | capture) mapfile -t COMPREPLY < <(compgen -W "--threads --keep-going --sets --help" -- "$word") ;;
+        run | capture) mapfile -t COMPREPLY < <(compgen -W "--threads --keep-going --sets --elements --help" -- "$word") ;;
+        judge) mapfile -t COMPREPLY < <(compgen -W "--threads --keep-going --sets --help" -- "$word") ;;
         list | dump | desk | explain | compare | stat) mapfile -t COMPREPLY < <(compgen -W "--keep-going --sets --help" -- "$word") ;;
         get) mapfile -t COMPREPLY < <(compgen -W "--at --keep-going --sets --help" -- "$word") ;;
         sets) mapfile -t COMPREPLY < <(compgen -W "--help" -- "$word") ;;

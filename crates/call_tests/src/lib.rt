@@ -16,6 +16,8 @@ mod comparisons;
 #[cfg(test)]
 mod desks;
 #[cfg(test)]
+mod elements;
+#[cfg(test)]
 mod faults;
 #[cfg(test)]
 mod listings;

@@ -5,4 +5,4 @@ pub mod GetAsked
 pub mod Words
 pub mod WordForms
 pub mod Pages
-pub mod ScriptForms
+pub mod FormOptions

@@ -1,10 +1,16 @@
-//! The option by which the scripts of a command are rulesets.
-ghost use Rattle.std.specs.Prelude.{◌≡◌, ◌<◌, map, length, IfSome};
+//! The options that say in which form a command's scripts are given, and in which form its answer is written.
+ghost use Rattle.std.specs.Prelude.{◌≡◌, ◌<◌, bytes_eq, map, length, IfSome};
 ghost use Rattle.std.specs.String.{string_bytes};
-ghost use Rattle.command_words.specs.ScriptForms as forms;
+ghost use Rattle.command_words.specs.FormOptions as forms;
 
-/// The option itself. It may follow the command's word anywhere.
-const SETS: &str = "--sets";
+/// An option of a form. It may follow the command's word anywhere.
+#[derive(Clone, Copy, Debug, PartialEq, Eq)]
+pub enum FormOption {
+    /// `--sets`: each script of the command is a ruleset.
+    Sets,
+    /// `--elements`: the line of a packet has the element that was found.
+    Elements,
+}
 
 /// In which form the scripts of a command are given.
 #[derive(Clone, Copy, Debug, PartialEq, Eq)]
@@ -13,6 +19,22 @@ pub enum ScriptForm {
     Script,
     /// Each is a ruleset. What is kept of it is the script.
     Ruleset,
+}
+
+/// In which form the answer of a command is written.
+#[derive(Clone, Copy, Debug, PartialEq, Eq)]
+pub struct AnswerForm {
+    /// Whether the line of a packet has the element that was found, and the line of the script that added it.
+    pub has_elements: bool,
+}
+
+/// The forms that the words of a command ask for.
+#[derive(Clone, Copy, Debug, PartialEq, Eq)]
+pub struct Forms {
+    /// That of its scripts.
+    pub scripts: ScriptForm,
+    /// That of its answer.
+    pub answer: AnswerForm,
 }
 
 /// Whether a first word asks for a page.
@@ -29,6 +51,35 @@ fn has_scripts(word: &str) -> bool
     !(word == "drill" || word == "sets" || is_page_word(word))
 }
 
+/// Whether a command with this word prints a line for each packet that it looks up.
+fn has_lookups(word: &str) -> bool
+    ensures { result ≡ forms.has_lookups word.now }
+{
+    word == "run" || word == "capture"
+}
+
+impl FormOption {
+    /// Whether a word is the option.
+    fn is_word(self, word: &str) -> bool
+        ensures { result ≡ bytes_eq word.now (forms.option_word self) }
+    {
+        match self {
+            FormOption::Sets => word == "--sets",
+            FormOption::Elements => word == "--elements",
+        }
+    }
+
+    /// Whether a command with this word takes the option.
+    fn is_taken_by(self, word: &str) -> bool
+        ensures { result ≡ forms.takes self word.now }
+    {
+        match self {
+            FormOption::Sets => has_scripts(word),
+            FormOption::Elements => has_lookups(word),
+        }
+    }
+}
+
 /// Whether the word after this one is its value.
 fn has_value(word: &str) -> bool
     ensures { result ≡ forms.has_value word.now }
@@ -36,16 +87,16 @@ fn has_value(word: &str) -> bool
     word == "--threads" || word == "--at"
 }
 
-/// The place of the option among words, of which the first may be the value of the word before it.
-fn place_among(is_value: bool, words: &[String]) -> Option<usize>
-    ensures place { result ≡ forms.place_among is_value (map string_bytes words.now) }
+/// The place of an option among words, of which the first may be the value of the word before it.
+fn place_among(option: FormOption, is_value: bool, words: &[String]) -> Option<usize>
+    ensures place { result ≡ forms.place_among option is_value (map string_bytes words.now) }
     ensures within { IfSome result (λ n. n < length words.now) }
 {
     match words.split_first() {
         None => None,
-        Some((word, _)) if !is_value && word.as_str() == SETS => Some(0),
+        Some((word, _)) if !is_value && option.is_word(word.as_str()) => Some(0),
         Some((word, rest)) => {
-            match place_among(!is_value && has_value(word.as_str()), rest) {
+            match place_among(option, !is_value && has_value(word.as_str()), rest) {
                 Some(place) => Some(place + 1),
                 None => None,
             }
@@ -53,31 +104,57 @@ fn place_among(is_value: bool, words: &[String]) -> Option<usize>
     }
 }
 
-/// The place of the option in the words of a command with scripts.
-fn place_of(words: &[String]) -> Option<usize>
-    ensures place { result ≡ forms.option_place (map string_bytes words.now) }
+/// The place of an option in the words of a command that takes it.
+fn place_of(option: FormOption, words: &[String]) -> Option<usize>
+    ensures place { result ≡ forms.option_place option (map string_bytes words.now) }
     ensures within { IfSome result (λ n. n < length words.now) }
 {
     match words.split_first() {
-        Some((first, rest)) if has_scripts(first.as_str()) => match place_among(false, rest) {
-            Some(place) => Some(place + 1),
-            None => None,
-        },
+        Some((first, rest)) if option.is_taken_by(first.as_str()) => {
+            match place_among(option, false, rest) {
+                Some(place) => Some(place + 1),
+                None => None,
+            }
+        }
         _ => None,
     }
 }
 
-/// Takes the option `--sets` out of words, if they have it, and returns the form of the command's scripts. It
-/// takes no memory.
-pub fn take_form(words: &mut Vec<String>) -> ScriptForm
-    ensures form { result ≡ forms.script_form (map string_bytes words.old.items) }
-    ensures words { map string_bytes words.new.items ≡ forms.without_option (map string_bytes words.old.items) }
+/// Takes an option out of words. Returns whether they had it.
+fn take_option(option: FormOption, words: &mut Vec<String>) -> bool
+    ensures had { result ≡ forms.has_option option (map string_bytes words.old.items) }
+    ensures words { map string_bytes words.new.items ≡ forms.without_option option (map string_bytes words.old.items) }
 {
-    match place_of(words.as_slice()) {
+    match place_of(option, words.as_slice()) {
         Some(place) => {
             let _ = words.remove(place);
-            ScriptForm::Ruleset
+            true
         }
-        None => ScriptForm::Script,
+        None => false,
+    }
+}
+
+/// The form of scripts, with or without the option `--sets`.
+fn form_by(has_rulesets: bool) -> ScriptForm
+    ensures { result ≡ forms.form_by has_rulesets }
+{
+    if has_rulesets {
+        ScriptForm::Ruleset
+    } else {
+        ScriptForm::Script
+    }
+}
+
+/// Takes the options `--sets` and `--elements` out of words, if they have them, and returns the forms of the command's
+/// scripts and of its answer. It takes no memory.
+pub fn take_forms(words: &mut Vec<String>) -> Forms
+    ensures forms { result ≡ forms.forms_of (map string_bytes words.old.items) }
+    ensures words { map string_bytes words.new.items ≡ forms.without_options (map string_bytes words.old.items) }
+{
+    let has_rulesets = take_option(FormOption::Sets, words);
+    let has_elements = take_option(FormOption::Elements, words);
+    Forms {
+        scripts: form_by(has_rulesets),
+        answer: AnswerForm { has_elements },
     }
 }

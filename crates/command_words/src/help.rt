@@ -7,13 +7,13 @@ pub const VERSION: &str = "pipapo 0.2.0\n";
 pub const PROGRAM: &str = "\
 pipapo runs nftables set scripts and looks packets up in the sets.
 
-usage: pipapo run SCRIPT KEYS [--threads N] [--keep-going] [--sets]
+usage: pipapo run SCRIPT KEYS [--threads N] [--keep-going] [--sets] [--elements]
        pipapo list SCRIPT [--keep-going] [--sets]
        pipapo dump SCRIPT [--keep-going] [--sets]
        pipapo drill SEED COUNT [--threads N]
        pipapo judge SCRIPT RULES KEYS [--threads N] [--keep-going] [--sets]
        pipapo judge SCRIPT RULES PLAN PCAP [--threads N] [--keep-going] [--sets]
-       pipapo capture SCRIPT PLAN PCAP [--threads N] [--keep-going] [--sets]
+       pipapo capture SCRIPT PLAN PCAP [--threads N] [--keep-going] [--sets] [--elements]
        pipapo desk SCRIPT [--keep-going] [--sets]
        pipapo get [--at MOMENT] [--keep-going] [--sets] SCRIPT [FAMILY] TABLE SET VALUE . VALUE ..
        pipapo explain SCRIPT KEYS [--keep-going] [--sets]
@@ -49,6 +49,7 @@ options, in any order among the names:
   --threads N    packet threads beside the control: 1 to 16, and else 1
   --keep-going   a refused change is skipped, and doesn't fail its transaction
   --sets         each script is a ruleset: its sets are read, and the rest is named
+  --elements     a packet's line in a run or a capture has the element that was found
   --at MOMENT    the moment of a get, in milliseconds; the options of get come before SCRIPT
 A value may also follow its option in one word, as --threads=4.
 
@@ -72,7 +73,7 @@ statuses:
 
 /// The page of `run`.
 pub const RUN: &str = "\
-usage: pipapo run SCRIPT KEYS [--threads N] [--keep-going] [--sets]
+usage: pipapo run SCRIPT KEYS [--threads N] [--keep-going] [--sets] [--elements]
 
 Runs SCRIPT beside the packets of the key file KEYS, and writes the transcript: what became
 of every transaction, each refused change with its line, and a verdict for each packet. One
@@ -92,12 +93,16 @@ It prints the commit, and a line for each packet. The first packet gets element 
   packet 0 thread 0 generation 1 element 0
   packet 1 thread 0 generation 1 none
 
-purged is the number of elements that the commit left out because they had expired.
+purged is the number of elements that the commit left out because they had expired. With
+--elements the first packet's line ends with the element, and the line that added it:
+
+  packet 0 thread 0 generation 1 element 0 { 192.0.2.0/24 . 80-443 } line 2
 
 options, in any order among the names:
   --threads N    packet threads beside the control: 1 to 16, and else 1
   --keep-going   a refused change is skipped, and doesn't fail its transaction
   --sets         each script is a ruleset: its sets are read, and the rest is named
+  --elements     a packet's line has the element that was found, and the line that added it
 
 statuses: 0 done, 1 done with a refused change, 3 SCRIPT isn't in its grammar, 4 KEYS isn't,
 5 a file can't be read, 6 the standard output failed, 7 out of memory, 8 a file is too large
@@ -179,7 +184,7 @@ output failed, 7 out of memory, 8 a file is too large
 
 /// The page of `capture`.
 pub const CAPTURE: &str = "\
-usage: pipapo capture SCRIPT PLAN PCAP [--threads N] [--keep-going] [--sets]
+usage: pipapo capture SCRIPT PLAN PCAP [--threads N] [--keep-going] [--sets] [--elements]
 
 Runs SCRIPT beside packets of the capture PCAP, and writes the transcript. PCAP is a file of
 pcap or pcapng, with frames of Ethernet, raw IP or Linux's cooked capture; each line of PLAN
@@ -190,6 +195,7 @@ options, in any order among the names:
   --threads N    packet threads beside the control: 1 to 16, and else 1
   --keep-going   a refused change is skipped, and doesn't fail its transaction
   --sets         each script is a ruleset: its sets are read, and the rest is named
+  --elements     a packet's line has the element that was found, and the line that added it
 
 statuses: 0 done, 1 done with a refused change, 3 SCRIPT isn't in its grammar, 11 PLAN isn't,
 10 PCAP isn't in its form, 5 a file can't be read, 6 the standard output failed, 7 out of

@@ -348,9 +348,9 @@ const PAGES: &[u8] = b"\
     -h|pipapo runs nftables set scripts and looks packets up in the sets.~\
     --version|pipapo 0.2.0~\
     -V|pipapo 0.2.0~\
-    help run|usage: pipapo run SCRIPT KEYS [--threads N] [--keep-going] [--sets]~\
-    run --help|usage: pipapo run SCRIPT KEYS [--threads N] [--keep-going] [--sets]~\
-    run -h|usage: pipapo run SCRIPT KEYS [--threads N] [--keep-going] [--sets]~\
+    help run|usage: pipapo run SCRIPT KEYS [--threads N] [--keep-going] [--sets] [--elements]~\
+    run --help|usage: pipapo run SCRIPT KEYS [--threads N] [--keep-going] [--sets] [--elements]~\
+    run -h|usage: pipapo run SCRIPT KEYS [--threads N] [--keep-going] [--sets] [--elements]~\
     help list|usage: pipapo list SCRIPT [--keep-going] [--sets]~\
     list --help|usage: pipapo list SCRIPT [--keep-going] [--sets]~\
     list -h|usage: pipapo list SCRIPT [--keep-going] [--sets]~\
@@ -366,9 +366,9 @@ const PAGES: &[u8] = b"\
     help judge|usage: pipapo judge SCRIPT RULES KEYS [--threads N] [--keep-going] [--sets]~\
     judge --help|usage: pipapo judge SCRIPT RULES KEYS [--threads N] [--keep-going] [--sets]~\
     judge -h|usage: pipapo judge SCRIPT RULES KEYS [--threads N] [--keep-going] [--sets]~\
-    help capture|usage: pipapo capture SCRIPT PLAN PCAP [--threads N] [--keep-going] [--sets]~\
-    capture --help|usage: pipapo capture SCRIPT PLAN PCAP [--threads N] [--keep-going] [--sets]~\
-    capture -h|usage: pipapo capture SCRIPT PLAN PCAP [--threads N] [--keep-going] [--sets]~\
+    help capture|usage: pipapo capture SCRIPT PLAN PCAP [--threads N] [--keep-going] [--sets] [--elements]~\
+    capture --help|usage: pipapo capture SCRIPT PLAN PCAP [--threads N] [--keep-going] [--sets] [--elements]~\
+    capture -h|usage: pipapo capture SCRIPT PLAN PCAP [--threads N] [--keep-going] [--sets] [--elements]~\
     help desk|usage: pipapo desk SCRIPT [--keep-going] [--sets]~\
     desk --help|usage: pipapo desk SCRIPT [--keep-going] [--sets]~\
     desk -h|usage: pipapo desk SCRIPT [--keep-going] [--sets]~\

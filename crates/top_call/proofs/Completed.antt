@@ -8,7 +8,7 @@ use Rattle.set_model.specs.declared.script.SetDecl.{SetDecl}
 use Rattle.set_model.specs.declared.packet.Packet.{Packet}
 use Rattle.set_model.specs.Control.{Mode, mode_of, has_refusal}
 use Rattle.set_model.specs.Legal.{AreLegal, Legal}
-use Rattle.set_model.specs.Text.{run_text, transcript_text}
+use Rattle.set_model.specs.Text.{run_text}
 use Rattle.rule_chain.specs.declared.chains.Chain.{Chain}
 use Rattle.rule_chain.specs.Chains.{Rules}
 use Rattle.rule_chain.specs.Judged.{IsJudged}
@@ -29,6 +29,7 @@ use Rattle.key_answer.specs.Question.{IsKey, IsBadKey, key_text, at_moment}
 use Rattle.script_run.specs.Listings.{listing_text, tables_text}
 use Rattle.stat_answer.specs.StatText.{stat_text}
 use Rattle.desk_run.specs.DeskText.{IsDeskText}
+use Rattle.command_words.specs.declared.form.AnswerForm.{AnswerForm}
 use Rattle.command_words.specs.Words.{Command, IsCommand, run, list, dump, drill, judge, capture, desk, get, explain, compare, stat, judge_capture, sets_of}
 use Rattle.command_words.proofs.CommandWords.{one-command}
 use Rattle.command_words.proofs.PageWords.{page-no-command}
@@ -42,6 +43,7 @@ use Rattle.input_files.proofs.Turns.{given-one, given-front, given-refuses}
 use Rattle.top_call.specs.declared.fault.Fault.{Fault}
 use Rattle.top_call.specs.declared.fault.Fault.TheVariants.{Usage, File, TooManyClerks, BadKey, Memory}
 use Rattle.top_call.specs.Transcript.{IsTranscript, IsJudgement, IsJudgedCapture, AreRulesOf, IsCaptured, IsTextOf, IsWovenOf, most_sections, IsAnswerOf, IsExplanationOf, IsComparisonOf, AreSetsIn}
+use Rattle.top_call.specs.Texts.{run_output}
 use Rattle.top_call.specs.Calls.{Call, IsQuiet}
 use Rattle.top_call.specs.Causes.{IsCause, no_command, of_file, too_many, bad_key, no_memory}
 use Rattle.top_call.specs.Lines.{done_status, form_status, file_status, file_line, status_of, fault_line}
@@ -88,12 +90,12 @@ module _ (c : Call) where
   cause-fault (BadKey l r) (bad_key m q h) e line = absurd (omega (arith, e))
   cause-fault Memory (no_memory d is_d asked same) e line = absurd (omega (arith, e))
 
-  due-fault : (status : ℕ) (text : List ℕ) → IsDue c.words c.shelf status text → status ≡ 5 → Appends c.taken_before c.taken_now text → TellsReadFault c
+  due-fault : (status : ℕ) (text : List ℕ) → IsDue c.answer c.words c.shelf status text → status ≡ 5 → Appends c.taken_before c.taken_now text → TellsReadFault c
   due-fault status text (output refused t has) e line = absurd (let small = done-small refused in omega (arith, e, small))
   due-fault status text (page p asks nothing same) e line = absurd (omega (arith, e))
   due-fault status text (refusal fault cause) e line = cause-fault fault cause e line
 
-  ends-fault : (result : ℕ) → Ends (IsDue c.words c.shelf) c.taken_before c.taken_now c.faults_before c.faults_now result → result ≡ 5 → TellsReadFault c
+  ends-fault : (result : ℕ) → Ends (IsDue c.answer c.words c.shelf) c.taken_before c.taken_now c.faults_before c.faults_now result → result ≡ 5 → TellsReadFault c
   ends-fault result (written status text due appends quiet) e = due-fault status text due e appends
   ends-fault result (cut status text due front rose) e = absurd (omega (arith, e))
   ends-fault result (memory due keeps quiet) e = absurd (omega (arith, e))
@@ -118,13 +120,13 @@ module _ (c : Call) where
     cause-flaw (BadKey l r) (bad_key m q h) e line = absurd (form-apart form 13 e refl)
     cause-flaw Memory (no_memory d is_d asked same) e line = absurd (form-apart form 7 e refl)
 
-    due-flaw : (status : ℕ) (text : List ℕ) → IsDue c.words c.shelf status text → status ≡ form_status form → Appends c.taken_before c.taken_now text → TellsFlaw (form_status form) c
+    due-flaw : (status : ℕ) (text : List ℕ) → IsDue c.answer c.words c.shelf status text → status ≡ form_status form → Appends c.taken_before c.taken_now text → TellsFlaw (form_status form) c
     unfolding is_form
     due-flaw status text (output refused t has) e line = absurd (form-apart form (done_status refused) e (done-no-form refused))
     due-flaw status text (page p asks nothing same) e line = absurd (form-apart form 0 e refl)
     due-flaw status text (refusal fault cause) e line = cause-flaw fault cause e line
 
-    ends-flaw : (result : ℕ) → Ends (IsDue c.words c.shelf) c.taken_before c.taken_now c.faults_before c.faults_now result → result ≡ form_status form → TellsFlaw (form_status form) c
+    ends-flaw : (result : ℕ) → Ends (IsDue c.answer c.words c.shelf) c.taken_before c.taken_now c.faults_before c.faults_now result → result ≡ form_status form → TellsFlaw (form_status form) c
     unfolding is_form
     ends-flaw result (written status text due appends quiet) e = due-flaw status text due e appends
     ends-flaw result (cut status text due front rose) e = absurd (form-apart form 6 e refl)
@@ -152,12 +154,12 @@ module _ (c : Call) where
   cause-many (BadKey l r) (bad_key m q h) e line = absurd (omega (arith, e))
   cause-many Memory (no_memory d is_d asked same) e line = absurd (omega (arith, e))
 
-  due-many : (status : ℕ) (text : List ℕ) → IsDue c.words c.shelf status text → status ≡ 12 → Appends c.taken_before c.taken_now text → TellsTooMany c
+  due-many : (status : ℕ) (text : List ℕ) → IsDue c.answer c.words c.shelf status text → status ≡ 12 → Appends c.taken_before c.taken_now text → TellsTooMany c
   due-many status text (output refused t has) e line = absurd (let small = done-small refused in omega (arith, e, small))
   due-many status text (page p asks nothing same) e line = absurd (omega (arith, e))
   due-many status text (refusal fault cause) e line = cause-many fault cause e line
 
-  ends-many : (result : ℕ) → Ends (IsDue c.words c.shelf) c.taken_before c.taken_now c.faults_before c.faults_now result → result ≡ 12 → TellsTooMany c
+  ends-many : (result : ℕ) → Ends (IsDue c.answer c.words c.shelf) c.taken_before c.taken_now c.faults_before c.faults_now result → result ≡ 12 → TellsTooMany c
   ends-many result (written status text due appends quiet) e = due-many status text due e appends
   ends-many result (cut status text due front rose) e = absurd (omega (arith, e))
   ends-many result (memory due keeps quiet) e = absurd (omega (arith, e))
@@ -187,12 +189,12 @@ module _ (c : Call) where
   cause-key (BadKey l r) (bad_key m q h) e line = record { line = l; reason = r; has_none = h; written = line }
   cause-key Memory (no_memory d is_d asked same) e line = absurd (omega (arith, e))
 
-  due-key : (status : ℕ) (text : List ℕ) → IsDue c.words c.shelf status text → status ≡ 13 → Appends c.taken_before c.taken_now text → TellsBadKey c
+  due-key : (status : ℕ) (text : List ℕ) → IsDue c.answer c.words c.shelf status text → status ≡ 13 → Appends c.taken_before c.taken_now text → TellsBadKey c
   due-key status text (output refused t has) e line = absurd (let small = done-small refused in omega (arith, e, small))
   due-key status text (page p asks nothing same) e line = absurd (omega (arith, e))
   due-key status text (refusal fault cause) e line = cause-key fault cause e line
 
-  ends-key : (result : ℕ) → Ends (IsDue c.words c.shelf) c.taken_before c.taken_now c.faults_before c.faults_now result → result ≡ 13 → TellsBadKey c
+  ends-key : (result : ℕ) → Ends (IsDue c.answer c.words c.shelf) c.taken_before c.taken_now c.faults_before c.faults_now result → result ≡ 13 → TellsBadKey c
   ends-key result (written status text due appends quiet) e = due-key status text due e appends
   ends-key result (cut status text due front rose) e = absurd (omega (arith, e))
   ends-key result (memory due keeps quiet) e = absurd (omega (arith, e))
@@ -204,7 +206,7 @@ module _ (c : Call) where
   tells-flaw ends form e = ends-flaw form c.status ends e
 
 -- The shelf's count rises only with a read fault, and the sink's only with a write fault.
-module _ (words : List (List ℕ)) (shelf : Shelved) where
+module _ (answer : AnswerForm) (words : List (List ℕ)) (shelf : Shelved) where
   file-moved : (sets : List SetDecl) (names : List (List ℕ)) (i : Input) (fault : FileFault) → IsFileCause shelf.told sets names i shelf.asked shelf.faults_before shelf.faults_now fault → shelf.faults_now ≢ shelf.faults_before → file_status fault ≡ 5
   file-moved sets names i (files.Bad flaw) cause moved = absurd (moved cause.1)
   file-moved sets names i (files.ReadFault name) cause moved = refl
@@ -218,17 +220,17 @@ module _ (words : List (List ℕ)) (shelf : Shelved) where
   cause-moved (BadKey l r) (bad_key m q h) moved = absurd (moved h.has_read.quiet)
   cause-moved Memory (no_memory d is_d asked same) moved = absurd (moved same)
 
-  due-moved : (status : ℕ) (text : List ℕ) → IsDue words shelf status text → shelf.faults_now ≢ shelf.faults_before → status ≡ 5
+  due-moved : (status : ℕ) (text : List ℕ) → IsDue answer words shelf status text → shelf.faults_now ≢ shelf.faults_before → status ≡ 5
   due-moved status text (output refused t has) moved = absurd (moved has.has_read.quiet)
   due-moved status text (page p asks nothing same) moved = absurd (moved same)
   due-moved status text (refusal fault cause) moved = cause-moved fault cause moved
 
-  pub shelf-moved : (taken_before taken_now : Option (List ℕ)) (b n result : ℕ) → Ends (IsDue words shelf) taken_before taken_now b n result → shelf.faults_now ≢ shelf.faults_before → (result ≡ 5) ⊎ (result ≡ 6)
+  pub shelf-moved : (taken_before taken_now : Option (List ℕ)) (b n result : ℕ) → Ends (IsDue answer words shelf) taken_before taken_now b n result → shelf.faults_now ≢ shelf.faults_before → (result ≡ 5) ⊎ (result ≡ 6)
   shelf-moved taken_before taken_now b n result (written status text due appends same) moved = inl (due-moved status text due moved)
   shelf-moved taken_before taken_now b n result (cut status text due front rose) moved = inr refl
   shelf-moved taken_before taken_now b n result (memory due keeps same) moved = absurd (let e = due-moved 7 [] due moved in omega (arith, e))
 
-  pub sink-moved : (taken_before taken_now : Option (List ℕ)) (b n result : ℕ) → Ends (IsDue words shelf) taken_before taken_now b n result → n ≢ b → result ≡ 6
+  pub sink-moved : (taken_before taken_now : Option (List ℕ)) (b n result : ℕ) → Ends (IsDue answer words shelf) taken_before taken_now b n result → n ≢ b → result ≡ 6
   sink-moved taken_before taken_now b n result (written status text due appends same) moved = absurd (moved same)
   sink-moved taken_before taken_now b n result (cut status text due front rose) moved = refl
   sink-moved taken_before taken_now b n result (memory due keeps same) moved = absurd (moved same)
@@ -290,15 +292,15 @@ module _ (words : List (List ℕ)) (shelf : Shelved) (quiet : Rose shelf.faults_
     cause-given (BadKey l r) (bad_key m q h) = absurd (keyed h.name h.key h.moment h.keep_going h.script m q (one-command words c (get h.name h.key h.moment h.keep_going) is_c h.is_get) h.reads h.bad)
     cause-given Memory (no_memory d is_d asked same) = (refl, refl)
 
-    module _ (taken_before taken_now : Option (List ℕ)) where
-      due-given : (status : ℕ) (text : List ℕ) → IsDue words shelf status text → Appends taken_before taken_now text → Wrote words shelf taken_before taken_now status ⊎ ((status ≡ 7) × Keeps taken_before taken_now)
+    module _ (answer : AnswerForm) (taken_before taken_now : Option (List ℕ)) where
+      due-given : (status : ℕ) (text : List ℕ) → IsDue answer words shelf status text → Appends taken_before taken_now text → Wrote answer words shelf taken_before taken_now status ⊎ ((status ≡ 7) × Keeps taken_before taken_now)
       due-given status text (output refused t has) appends = inl (record { refused = refused; text = t; status = refl; has = has; appends = appends })
       due-given status text (page p asks nothing same) appends = absurd (page-no-command words p c asks is_c)
       due-given status text (refusal fault cause) appends =
           let g = cause-given fault cause in
           inr (g.0, kept-by-nothing taken_before taken_now (subst (λ (t : List ℕ). Appends taken_before taken_now t) g.1 appends))
 
-      pub given-done : (b n result : ℕ) → Ends (IsDue words shelf) taken_before taken_now b n result → (Rose b n → ⊥) → Wrote words shelf taken_before taken_now result ⊎ ((result ≡ 7) × Keeps taken_before taken_now)
+      pub given-done : (b n result : ℕ) → Ends (IsDue answer words shelf) taken_before taken_now b n result → (Rose b n → ⊥) → Wrote answer words shelf taken_before taken_now result ⊎ ((result ≡ 7) × Keeps taken_before taken_now)
       given-done b n result (written status text due appends same) sink = due-given status text due appends
       given-done b n result (cut status text due front rose) sink = absurd (sink rose)
       given-done b n result (memory due keeps same) sink = inr (refl, keeps)
@@ -340,17 +342,17 @@ given-capture told p f s packets h = record { text = h.capture.text; is_told = h
 module _ (c : Call) (ends : EndsDuly c) (quiet : IsQuiet c) where
   -- a command whose files are given
   pub ended : (d : Command) (sets : List SetDecl) → IsCommand c.words d → AreGiven c.shelf.told sets (inputs d) → HasFew c.shelf.told d → HasKey c.shelf.told d → HasWritten c ⊎ RanOut c
-  ended d sets is_d given few keyed = given-done c.words c.shelf quiet.shelf d is_d sets given few keyed c.taken_before c.taken_now c.faults_before c.faults_now c.status ends quiet.sink
+  ended d sets is_d given few keyed = given-done c.words c.shelf quiet.shelf d is_d sets given few keyed c.answer c.taken_before c.taken_now c.faults_before c.faults_now c.status ends quiet.sink
 
   -- the transcript of the script and the key file in these texts
   same-files : (n : ℕ) (mode : Mode) (script keys_name : List ℕ) (s : Script) (packets : List (List Packet)) (hs : HasScript c.shelf.told script s) (hk : HasKeys c.shelf.told keys_name s packets) (w : HasWritten c)
-      → IsTranscript hs.text hk.text n mode w.refused w.text → DeliversRun n mode s packets c
+      → IsTranscript c.answer hs.text hk.text n mode w.refused w.text → DeliversRun n mode s packets c
   same-files n mode script keys_name s packets hs hk w t =
       let one : t.script ≡ s = script_single hs.text t.script s t.script_is hs.holds in
       let their_keys : IsKeysText s.schema hk.text t.keys = subst (λ (x : Script). IsKeysText x.schema hk.text t.keys) one t.keys_are in
       let other : t.keys ≡ packets = keys_single s.schema hk.text t.keys packets their_keys hk.holds in
       let is_legal : Legal s packets n mode t.lines = subst (λ (k : List (List Packet)). Legal s k n mode t.lines) other (subst (λ (x : Script). Legal x t.keys n mode t.lines) one t.legal) in
-      let is_text : w.text ≡ transcript_text mode s packets t.lines = t.text ∙ ap (λ (x : Script). transcript_text mode x t.keys t.lines) one ∙ ap (λ (k : List (List Packet)). transcript_text mode s k t.lines) other in
+      let is_text : w.text ≡ run_output c.answer mode s packets t.lines = t.text ∙ ap (λ (x : Script). run_output c.answer mode x t.keys t.lines) one ∙ ap (λ (k : List (List Packet)). run_output c.answer mode s k t.lines) other in
       record { lines = t.lines; legal = is_legal; delivers = record { written = subst (λ (o : List ℕ). Appends c.taken_before c.taken_now o) is_text w.appends; status = w.status ∙ ap done_status (t.refusal ∙ ap (has_refusal mode) one) } }
 
   -- what the chains decide on the packets of the key file
@@ -371,14 +373,14 @@ module _ (c : Call) (ends : EndsDuly c) (quiet : IsQuiet c) where
 
   -- the transcript of the script, and of the packets that the plan takes from the capture
   same-capture : (n : ℕ) (mode : Mode) (script plan_name capture_name : List ℕ) (s : Script) (taken : List Packet) (hs : HasScript c.shelf.told script s) (hc : HasCaptured c.shelf.told plan_name capture_name s taken) (w : HasWritten c)
-      → IsCaptured hs.text hc.plan.text hc.capture.text n mode w.refused w.text → DeliversRun n mode s (taken ∷ []) c
+      → IsCaptured c.answer hs.text hc.plan.text hc.capture.text n mode w.refused w.text → DeliversRun n mode s (taken ∷ []) c
   same-capture n mode script plan_name capture_name s taken hs hc w t =
       let one : t.script ≡ s = script_single hs.text t.script s t.script_is hs.holds in
       let theirs : AreCaptured s.schema hc.plan.text hc.capture.text t.packets = subst (λ (x : Script). AreCaptured x.schema hc.plan.text hc.capture.text t.packets) one t.captured in
       let mine : AreCaptured s.schema hc.plan.text hc.capture.text taken = record { plan = hc.lines; frames = hc.frames; is_plan = hc.plan.holds; is_capture = hc.capture.holds; made = hc.made } in
       let other : t.packets ≡ taken = one_capture s.schema hc.plan.text hc.capture.text t.packets taken theirs mine in
       let is_legal : Legal s (taken ∷ []) n mode t.lines = subst (λ (k : List Packet). Legal s (k ∷ []) n mode t.lines) other (subst (λ (x : Script). Legal x (t.packets ∷ []) n mode t.lines) one t.legal) in
-      let is_text : w.text ≡ transcript_text mode s (taken ∷ []) t.lines = t.text ∙ ap (λ (x : Script). transcript_text mode x (t.packets ∷ []) t.lines) one ∙ ap (λ (k : List Packet). transcript_text mode s (k ∷ []) t.lines) other in
+      let is_text : w.text ≡ run_output c.answer mode s (taken ∷ []) t.lines = t.text ∙ ap (λ (x : Script). run_output c.answer mode x (t.packets ∷ []) t.lines) one ∙ ap (λ (k : List Packet). run_output c.answer mode s (k ∷ []) t.lines) other in
       record { lines = t.lines; legal = is_legal; delivers = record { written = subst (λ (o : List ℕ). Appends c.taken_before c.taken_now o) is_text w.appends; status = w.status ∙ ap done_status (t.refusal ∙ ap (has_refusal mode) one) } }
 
   -- what the chains decide on the packets that the plan takes from the capture
@@ -472,51 +474,51 @@ module _ (c : Call) (ends : EndsDuly c) (quiet : IsQuiet c) where
   completes = record {
     run = λ script keys n g s packets is_run hs hk.
         or-ran-out (DeliversRun n (mode_of g) s packets c)
-        (λ w. same-files n (mode_of g) script keys s packets hs hk w (does c.words c.shelf (run script keys n g) w.refused w.text is_run w.has hs.text hk.text hs.is_told hk.is_told))
+        (λ w. same-files n (mode_of g) script keys s packets hs hk w (does c.answer c.words c.shelf (run script keys n g) w.refused w.text is_run w.has hs.text hk.text hs.is_told hk.is_told))
         (ended (run script keys n g) s.schema is_run (given-script c.shelf.told script s hs, (given-keys c.shelf.told keys s packets hk, tt)) (λ name k t e. absurd (cc e)) (λ name key m k t l r e. absurd (cc e)));
     judge = λ script rules keys n g s r packets is_judge hs hr hk.
         or-ran-out (DeliversJudgement n (mode_of g) s r packets c)
-        (λ w. same-judgement n (mode_of g) script rules keys s r packets hs hr hk w (does c.words c.shelf (judge script rules keys n g) w.refused w.text is_judge w.has hs.text hr.text hk.text hs.is_told hr.is_told hk.is_told))
+        (λ w. same-judgement n (mode_of g) script rules keys s r packets hs hr hk w (does c.answer c.words c.shelf (judge script rules keys n g) w.refused w.text is_judge w.has hs.text hr.text hk.text hs.is_told hr.is_told hk.is_told))
         (ended (judge script rules keys n g) s.schema is_judge (given-script c.shelf.told script s hs, (given-rules c.shelf.told rules s r hr, (given-keys c.shelf.told keys s packets hk, tt))) (λ name k t e. absurd (cc e)) (λ name key m k t l r e. absurd (cc e)));
     capture = λ script plan packets n g s taken is_capture hs hc.
         or-ran-out (DeliversRun n (mode_of g) s (taken ∷ []) c)
-        (λ w. same-capture n (mode_of g) script plan packets s taken hs hc w (does c.words c.shelf (capture script plan packets n g) w.refused w.text is_capture w.has hs.text hc.plan.text hc.capture.text hs.is_told hc.plan.is_told hc.capture.is_told))
+        (λ w. same-capture n (mode_of g) script plan packets s taken hs hc w (does c.answer c.words c.shelf (capture script plan packets n g) w.refused w.text is_capture w.has hs.text hc.plan.text hc.capture.text hs.is_told hc.plan.is_told hc.capture.is_told))
         (ended (capture script plan packets n g) s.schema is_capture (given-script c.shelf.told script s hs, (given-plan c.shelf.told plan packets s taken hc, (given-capture c.shelf.told plan packets s taken hc, tt))) (λ name k t e. absurd (cc e)) (λ name key m k t l r e. absurd (cc e)));
     judge_capture = λ script rules plan packets n g s r taken is_judge hs hr hc.
         or-ran-out (DeliversJudgement n (mode_of g) s r (taken ∷ []) c)
-        (λ w. same-judged-capture n (mode_of g) script rules plan packets s r taken hs hr hc w (does c.words c.shelf (judge_capture script rules plan packets n g) w.refused w.text is_judge w.has hs.text hr.text hc.plan.text hc.capture.text hs.is_told hr.is_told hc.plan.is_told hc.capture.is_told))
+        (λ w. same-judged-capture n (mode_of g) script rules plan packets s r taken hs hr hc w (does c.answer c.words c.shelf (judge_capture script rules plan packets n g) w.refused w.text is_judge w.has hs.text hr.text hc.plan.text hc.capture.text hs.is_told hr.is_told hc.plan.is_told hc.capture.is_told))
         (ended (judge_capture script rules plan packets n g) s.schema is_judge (given-script c.shelf.told script s hs, (given-rules c.shelf.told rules s r hr, (given-plan c.shelf.told plan packets s taken hc, (given-capture c.shelf.told plan packets s taken hc, tt)))) (λ name k t e. absurd (cc e)) (λ name key m k t l r e. absurd (cc e)));
     list = λ script g s is_list hs.
         or-ran-out (DeliversText (mode_of g) s (listing_text (mode_of g) s) c)
-        (λ w. same-script listing_text (mode_of g) script s hs w (does c.words c.shelf (list script g) w.refused w.text is_list w.has hs.text hs.is_told))
+        (λ w. same-script listing_text (mode_of g) script s hs w (does c.answer c.words c.shelf (list script g) w.refused w.text is_list w.has hs.text hs.is_told))
         (ended (list script g) s.schema is_list (given-script c.shelf.told script s hs, tt) (λ name k t e. absurd (cc e)) (λ name key m k t l r e. absurd (cc e)));
     dump = λ script g s is_dump hs.
         or-ran-out (DeliversText (mode_of g) s (tables_text (mode_of g) s) c)
-        (λ w. same-script tables_text (mode_of g) script s hs w (does c.words c.shelf (dump script g) w.refused w.text is_dump w.has hs.text hs.is_told))
+        (λ w. same-script tables_text (mode_of g) script s hs w (does c.answer c.words c.shelf (dump script g) w.refused w.text is_dump w.has hs.text hs.is_told))
         (ended (dump script g) s.schema is_dump (given-script c.shelf.told script s hs, tt) (λ name k t e. absurd (cc e)) (λ name key m k t l r e. absurd (cc e)));
     stat = λ script g s is_stat hs.
         or-ran-out (DeliversText (mode_of g) s (stat_text (mode_of g) s) c)
-        (λ w. same-script stat_text (mode_of g) script s hs w (does c.words c.shelf (stat script g) w.refused w.text is_stat w.has hs.text hs.is_told))
+        (λ w. same-script stat_text (mode_of g) script s hs w (does c.answer c.words c.shelf (stat script g) w.refused w.text is_stat w.has hs.text hs.is_told))
         (ended (stat script g) s.schema is_stat (given-script c.shelf.told script s hs, tt) (λ name k t e. absurd (cc e)) (λ name key m k t l r e. absurd (cc e)));
     desk = λ script g s is_desk hs few.
         or-ran-out (DeliversDesk s g c)
-        (λ w. same-desk script g s hs w (does c.words c.shelf (desk script g) w.refused w.text is_desk w.has hs.text hs.is_told))
+        (λ w. same-desk script g s hs w (does c.answer c.words c.shelf (desk script g) w.refused w.text is_desk w.has hs.text hs.is_told))
         (ended (desk script g) s.schema is_desk (given-script c.shelf.told script s hs, tt) (few-sections script g s hs few) (λ name key m k t l r e. absurd (cc e)));
     get = λ script key moment g s p is_get hs is_key.
         or-ran-out (DeliversAnswer (mode_of g) s (at_moment moment s p) c)
-        (λ w. same-answer script key moment g s p hs is_key w (does c.words c.shelf (get script key moment g) w.refused w.text is_get w.has hs.text hs.is_told))
+        (λ w. same-answer script key moment g s p hs is_key w (does c.answer c.words c.shelf (get script key moment g) w.refused w.text is_get w.has hs.text hs.is_told))
         (ended (get script key moment g) s.schema is_get (given-script c.shelf.told script s hs, tt) (λ name k t e. absurd (cc e)) (has-key script key moment g s p hs is_key));
     explain = λ script keys g s packets is_explain hs hk.
         or-ran-out (DeliversExplanation (mode_of g) s packets c)
-        (λ w. same-explanation script keys g s packets hs hk w (does c.words c.shelf (explain script keys g) w.refused w.text is_explain w.has hs.text hk.text hs.is_told hk.is_told))
+        (λ w. same-explanation script keys g s packets hs hk w (does c.answer c.words c.shelf (explain script keys g) w.refused w.text is_explain w.has hs.text hk.text hs.is_told hk.is_told))
         (ended (explain script keys g) s.schema is_explain (given-script c.shelf.told script s hs, (given-keys c.shelf.told keys s packets hk, tt)) (λ name k t e. absurd (cc e)) (λ name key m k t l r e. absurd (cc e)));
     compare = λ first second g s t is_compare hs ht.
         or-ran-out (DeliversComparison (mode_of g) first s second t c)
-        (λ w. same-comparison first second g s t hs ht w (does c.words c.shelf (compare first second g) w.refused w.text is_compare w.has hs.text ht.text hs.is_told ht.is_told))
+        (λ w. same-comparison first second g s t hs ht w (does c.answer c.words c.shelf (compare first second g) w.refused w.text is_compare w.has hs.text ht.text hs.is_told ht.is_told))
         (ended (compare first second g) s.schema is_compare (given-script c.shelf.told first s hs, (given-second c.shelf.told second t s.schema ht, tt)) (λ name k t e. absurd (cc e)) (λ name key m k t l r e. absurd (cc e)));
     sets = λ file s is_sets h.
         or-ran-out (DeliversSets h.text s c)
-        (λ w. same-sets file s h w (does c.words c.shelf (sets_of file) w.refused w.text is_sets w.has h.text h.is_told))
+        (λ w. same-sets file s h w (does c.answer c.words c.shelf (sets_of file) w.refused w.text is_sets w.has h.text h.is_told))
         (ended (sets_of file) s.schema is_sets (given-ruleset c.shelf.told file s s.schema h, tt) (λ name k t e. absurd (cc e)) (λ name key m k t l r e. absurd (cc e)));
     drill = λ seed count threads is_drill. or-ran-out _ (drilled c seed count threads is_drill) (ended (drill seed count threads) [] is_drill tt (λ name k t e. absurd (cc e)) (λ name key m k t l r e. absurd (cc e)));
     page = page-told c ends quiet.sink;

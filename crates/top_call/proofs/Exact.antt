@@ -7,6 +7,7 @@ use Rattle.set_model.specs.declared.script.Script.{Script}
 use Rattle.set_model.specs.declared.script.SetDecl.{SetDecl}
 use Rattle.set_model.specs.declared.packet.Packet.{Packet}
 use Rattle.set_model.specs.Control.{Mode, mode_of, has_refusal}
+use Rattle.command_words.specs.declared.form.AnswerForm.{AnswerForm}
 use Rattle.command_words.specs.Words.{Command, IsCommand, IsNoCommand, desk, get}
 use Rattle.command_words.proofs.CommandWords.{one-command}
 use Rattle.command_words.proofs.PageWords.{page-no-command}
@@ -103,7 +104,7 @@ module _ (shelf : Shelved) (quiet : Rose shelf.faults_before shelf.faults_now �
     read-bad r = read-outside r.sets later (subst (λ (z : List Input). AreOf shelf.told r.sets z) in_order r.all.are_of)
 
 -- The result of a command of these words, by the results of its files.
-module _ (words : List (List ℕ)) (shelf : Shelved) (c : Command) (is_c : IsCommand words c) (status : ℕ) (no_read : HasRead shelf c → ⊥) (of_stop : (fault : FileFault) → StopsAt shelf c fault → (file_status fault ≡ status) ⊎ (file_status fault ≡ 7)) where
+module _ (answer : AnswerForm) (words : List (List ℕ)) (shelf : Shelved) (c : Command) (is_c : IsCommand words c) (status : ℕ) (no_read : HasRead shelf c → ⊥) (of_stop : (fault : FileFault) → StopsAt shelf c fault → (file_status fault ≡ status) ⊎ (file_status fault ≡ 7)) where
   cause-status : (fault : Fault) → IsCause words shelf fault → (status_of fault ≡ status) ⊎ (status_of fault ≡ 7)
   cause-status Usage (no_command none nothing quiet) = absurd (none.no_work c is_c)
   cause-status (File f) (of_file d g is_d s) = of_stop f (subst (λ (x : Command). StopsAt shelf x f) (one-command words d c is_d is_c) s)
@@ -111,18 +112,18 @@ module _ (words : List (List ℕ)) (shelf : Shelved) (c : Command) (is_c : IsCom
   cause-status (BadKey l r) (bad_key m q h) = absurd (no_read (subst (λ (x : Command). HasRead shelf x) (one-command words (get h.name h.key h.moment h.keep_going) c h.is_get is_c) h.has_read))
   cause-status Memory (no_memory d is_d asked quiet) = inr refl
 
-  due-status : (result : ℕ) (text : List ℕ) → IsDue words shelf result text → (result ≡ status) ⊎ (result ≡ 7)
+  due-status : (result : ℕ) (text : List ℕ) → IsDue answer words shelf result text → (result ≡ status) ⊎ (result ≡ 7)
   due-status result text (output refused t has) = absurd (no_read (subst (λ (x : Command). HasRead shelf x) (one-command words has.command c has.is_command is_c) has.has_read))
   due-status result text (page p asks nothing quiet) = absurd (page-no-command words p c asks is_c)
   due-status result text (refusal fault cause) = cause-status fault cause
 
-  ends-status : (taken_before taken_now : Option (List ℕ)) (b n result : ℕ) → Ends (IsDue words shelf) taken_before taken_now b n result → (Rose b n → ⊥) → (result ≡ status) ⊎ (result ≡ 7)
+  ends-status : (taken_before taken_now : Option (List ℕ)) (b n result : ℕ) → Ends (IsDue answer words shelf) taken_before taken_now b n result → (Rose b n → ⊥) → (result ≡ status) ⊎ (result ≡ 7)
   ends-status taken_before taken_now b n result (written r text due appends quiet) sink = due-status r text due
   ends-status taken_before taken_now b n result (cut r text due front rose) sink = absurd (sink rose)
   ends-status taken_before taken_now b n result (memory due keeps quiet) sink = inr refl
 
 -- If the words are a desk whose script has too many sections, its line is written.
-module _ (words : List (List ℕ)) (shelf : Shelved) (quiet : Rose shelf.faults_before shelf.faults_now → ⊥) (script : List ℕ) (keep_going : Bool) (s : Script) (is_desk : IsCommand words (desk script keep_going)) (hs : HasScript shelf.told script s) (many : most_sections < length s.sections) where
+module _ (answer : AnswerForm) (words : List (List ℕ)) (shelf : Shelved) (quiet : Rose shelf.faults_before shelf.faults_now → ⊥) (script : List ℕ) (keep_going : Bool) (s : Script) (is_desk : IsCommand words (desk script keep_going)) (hs : HasScript shelf.told script s) (many : most_sections < length s.sections) where
   cause-many : (fault : Fault) → IsCause words shelf fault → (status_of fault ≡ 12) ⊎ (status_of fault ≡ 7)
   cause-many Usage (no_command none nothing still) = absurd (none.no_work (desk script keep_going) is_desk)
   cause-many (File f) (of_file d g is_d stops) =
@@ -131,25 +132,25 @@ module _ (words : List (List ℕ)) (shelf : Shelved) (quiet : Rose shelf.faults_
   cause-many (BadKey l r) (bad_key m q h) = absurd (let same = one-command words (get h.name h.key h.moment h.keep_going) (desk script keep_going) h.is_get is_desk in cc same)
   cause-many Memory (no_memory d is_d asked still) = inr refl
 
-  not-woven : (refused : Bool) (text : List ℕ) → IsOutput (desk script keep_going) shelf.told refused text → ⊥
+  not-woven : (refused : Bool) (text : List ℕ) → IsOutput answer (desk script keep_going) shelf.told refused text → ⊥
   not-woven refused text is_output =
       let w = is_output hs.text hs.is_told in
       let few = w.few in
       let size = ap (λ (x : Script). length x.sections) (script_single hs.text w.script s w.script_is hs.holds) in
       omega (arith, size, few, many)
 
-  due-many : (result : ℕ) (text : List ℕ) → IsDue words shelf result text → (result ≡ 12) ⊎ (result ≡ 7)
-  due-many result text (output refused t has) = absurd (not-woven refused t (does words shelf (desk script keep_going) refused t is_desk has))
+  due-many : (result : ℕ) (text : List ℕ) → IsDue answer words shelf result text → (result ≡ 12) ⊎ (result ≡ 7)
+  due-many result text (output refused t has) = absurd (not-woven refused t (does answer words shelf (desk script keep_going) refused t is_desk has))
   due-many result text (page p asks nothing still) = absurd (page-no-command words p (desk script keep_going) asks is_desk)
   due-many result text (refusal fault cause) = cause-many fault cause
 
-  ends-many : (taken_before taken_now : Option (List ℕ)) (b n result : ℕ) → Ends (IsDue words shelf) taken_before taken_now b n result → (Rose b n → ⊥) → (result ≡ 12) ⊎ (result ≡ 7)
+  ends-many : (taken_before taken_now : Option (List ℕ)) (b n result : ℕ) → Ends (IsDue answer words shelf) taken_before taken_now b n result → (Rose b n → ⊥) → (result ≡ 12) ⊎ (result ≡ 7)
   ends-many taken_before taken_now b n result (written r text due appends still) sink = due-many r text due
   ends-many taken_before taken_now b n result (cut r text due front rose) sink = absurd (sink rose)
   ends-many taken_before taken_now b n result (memory due keeps still) sink = inr refl
 
 -- If the words are a `get` whose words are no key, their line is written.
-module _ (words : List (List ℕ)) (shelf : Shelved) (quiet : Rose shelf.faults_before shelf.faults_now → ⊥) (script : List ℕ) (key : List (List ℕ)) (moment : Option ℕ) (keep_going : Bool) (s : Script) (is_get : IsCommand words (get script key moment keep_going)) (hs : HasScript shelf.told script s)
+module _ (answer : AnswerForm) (words : List (List ℕ)) (shelf : Shelved) (quiet : Rose shelf.faults_before shelf.faults_now → ⊥) (script : List ℕ) (key : List (List ℕ)) (moment : Option ℕ) (keep_going : Bool) (s : Script) (is_get : IsCommand words (get script key moment keep_going)) (hs : HasScript shelf.told script s)
     (no_key : (p : Packet) → IsKey s.schema key p → ⊥) where
   cause-key : (fault : Fault) → IsCause words shelf fault → (status_of fault ≡ 13) ⊎ (status_of fault ≡ 7)
   cause-key Usage (no_command none nothing still) = absurd (none.no_work (get script key moment keep_going) is_get)
@@ -159,24 +160,24 @@ module _ (words : List (List ℕ)) (shelf : Shelved) (quiet : Rose shelf.faults_
   cause-key (BadKey l r) (bad_key m q h) = inl refl
   cause-key Memory (no_memory d is_d asked still) = inr refl
 
-  not-answered : (refused : Bool) (text : List ℕ) → IsOutput (get script key moment keep_going) shelf.told refused text → ⊥
+  not-answered : (refused : Bool) (text : List ℕ) → IsOutput answer (get script key moment keep_going) shelf.told refused text → ⊥
   not-answered refused text is_output =
       let w = is_output hs.text hs.is_told in
       let one : w.script ≡ s = script_single hs.text w.script s w.script_is hs.holds in
       no_key w.gives.packet (subst (λ (x : Script). IsKey x.schema key w.gives.packet) one w.gives.is_key)
 
-  due-key : (result : ℕ) (text : List ℕ) → IsDue words shelf result text → (result ≡ 13) ⊎ (result ≡ 7)
-  due-key result text (output refused t has) = absurd (not-answered refused t (does words shelf (get script key moment keep_going) refused t is_get has))
+  due-key : (result : ℕ) (text : List ℕ) → IsDue answer words shelf result text → (result ≡ 13) ⊎ (result ≡ 7)
+  due-key result text (output refused t has) = absurd (not-answered refused t (does answer words shelf (get script key moment keep_going) refused t is_get has))
   due-key result text (page p asks nothing still) = absurd (page-no-command words p (get script key moment keep_going) asks is_get)
   due-key result text (refusal fault cause) = cause-key fault cause
 
-  ends-key : (taken_before taken_now : Option (List ℕ)) (b n result : ℕ) → Ends (IsDue words shelf) taken_before taken_now b n result → (Rose b n → ⊥) → (result ≡ 13) ⊎ (result ≡ 7)
+  ends-key : (taken_before taken_now : Option (List ℕ)) (b n result : ℕ) → Ends (IsDue answer words shelf) taken_before taken_now b n result → (Rose b n → ⊥) → (result ≡ 13) ⊎ (result ≡ 7)
   ends-key taken_before taken_now b n result (written r text due appends still) sink = due-key r text due
   ends-key taken_before taken_now b n result (cut r text due front rose) sink = absurd (sink rose)
   ends-key taken_before taken_now b n result (memory due keeps still) sink = inr refl
 
 -- If the words are no command, the usage line is written.
-module _ (words : List (List ℕ)) (shelf : Shelved) (none : IsNoCommand words) where
+module _ (answer : AnswerForm) (words : List (List ℕ)) (shelf : Shelved) (none : IsNoCommand words) where
   cause-usage : (fault : Fault) → IsCause words shelf fault → status_of fault ≡ 2
   cause-usage Usage (no_command other nothing quiet) = refl
   cause-usage (File f) (of_file d g is_d s) = absurd (none.no_work d is_d)
@@ -184,19 +185,19 @@ module _ (words : List (List ℕ)) (shelf : Shelved) (none : IsNoCommand words) 
   cause-usage (BadKey l r) (bad_key m q h) = absurd (none.no_work (get h.name h.key h.moment h.keep_going) h.is_get)
   cause-usage Memory (no_memory d is_d asked quiet) = absurd (none.no_work d is_d)
 
-  due-usage : (result : ℕ) (text : List ℕ) → IsDue words shelf result text → result ≡ 2
+  due-usage : (result : ℕ) (text : List ℕ) → IsDue answer words shelf result text → result ≡ 2
   due-usage result text (output refused t has) = absurd (none.no_work has.command has.is_command)
   due-usage result text (page p asks nothing quiet) = absurd (none.no_page p asks)
   due-usage result text (refusal fault cause) = cause-usage fault cause
 
-  ends-usage : (taken_before taken_now : Option (List ℕ)) (b n result : ℕ) → Ends (IsDue words shelf) taken_before taken_now b n result → (Rose b n → ⊥) → result ≡ 2
+  ends-usage : (taken_before taken_now : Option (List ℕ)) (b n result : ℕ) → Ends (IsDue answer words shelf) taken_before taken_now b n result → (Rose b n → ⊥) → result ≡ 2
   ends-usage taken_before taken_now b n result (written r text due appends quiet) sink = due-usage r text due
   ends-usage taken_before taken_now b n result (cut r text due front rose) sink = absurd (sink rose)
   ends-usage taken_before taken_now b n result (memory due keeps quiet) sink = absurd (let e = due-usage 7 [] due in omega (arith, e))
 
 module _ (c : Call) (ends : EndsDuly c) (quiet : IsQuiet c) where
   in-turn : (status : ℕ) (earlier : List Input) (i : Input) (text : List ℕ) (t : HasTurn c earlier i text) → (HasRead c.shelf t.command → ⊥) → ((fault : FileFault) → StopsAt c.shelf t.command fault → (file_status fault ≡ status) ⊎ (file_status fault ≡ 7)) → IsStatus status c
-  in-turn status earlier i text t no_read of_stop = ends-status c.words c.shelf t.command t.is_command status no_read of_stop c.taken_before c.taken_now c.faults_before c.faults_now c.status ends quiet.sink
+  in-turn status earlier i text t no_read of_stop = ends-status c.answer c.words c.shelf t.command t.is_command status no_read of_stop c.taken_before c.taken_now c.faults_before c.faults_now c.status ends quiet.sink
 
   of-text : (mode : Mode) (s : Script) (text : List ℕ) → DeliversText mode s text c ⊎ RanOut c → IsStatus (done_status (has_refusal mode s)) c
   of-text mode s text (inl d) = inl d.status
@@ -239,7 +240,7 @@ module _ (c : Call) (ends : EndsDuly c) (quiet : IsQuiet c) where
 
   exact : IsExact c
   exact = record {
-    usage = λ none. ends-usage c.words c.shelf none c.taken_before c.taken_now c.faults_before c.faults_now c.status ends quiet.sink;
+    usage = λ none. ends-usage c.answer c.words c.shelf none c.taken_before c.taken_now c.faults_before c.faults_now c.status ends quiet.sink;
     large = λ earlier i text t big.
         in-turn 8 earlier i text t (λ r. read-large c.shelf quiet.shelf t.command earlier t.later i t.sets text t.in_order t.given t.is_told r big)
         (λ fault s. file-large c.shelf quiet.shelf t.command earlier t.later i t.sets text t.in_order t.given t.is_told fault s big);
@@ -253,9 +254,9 @@ module _ (c : Call) (ends : EndsDuly c) (quiet : IsQuiet c) where
     done_list = λ script g s is_list hs. of-text (mode_of g) s _ (done.list script g s is_list hs);
     done_dump = λ script g s is_dump hs. of-text (mode_of g) s _ (done.dump script g s is_dump hs);
     done_stat = λ script g s is_stat hs. of-text (mode_of g) s _ (done.stat script g s is_stat hs);
-    too_many = λ script g s is_desk hs many. ends-many c.words c.shelf quiet.shelf script g s is_desk hs many c.taken_before c.taken_now c.faults_before c.faults_now c.status ends quiet.sink;
+    too_many = λ script g s is_desk hs many. ends-many c.answer c.words c.shelf quiet.shelf script g s is_desk hs many c.taken_before c.taken_now c.faults_before c.faults_now c.status ends quiet.sink;
     done_desk = λ script g s is_desk hs few. of-desk s g (done.desk script g s is_desk hs few);
-    bad_key = λ script key moment g s is_get hs no_key. ends-key c.words c.shelf quiet.shelf script key moment g s is_get hs no_key c.taken_before c.taken_now c.faults_before c.faults_now c.status ends quiet.sink;
+    bad_key = λ script key moment g s is_get hs no_key. ends-key c.answer c.words c.shelf quiet.shelf script key moment g s is_get hs no_key c.taken_before c.taken_now c.faults_before c.faults_now c.status ends quiet.sink;
     done_get = λ script key moment g s p is_get hs is_key. of-answer (mode_of g) s (at_moment moment s p) (done.get script key moment g s p is_get hs is_key);
     done_explain = λ script keys g s packets is_explain hs hk. of-explanation (mode_of g) s packets (done.explain script keys g s packets is_explain hs hk);
     done_compare = λ first second g s t is_compare hs ht. of-comparison (mode_of g) first second s t (done.compare first second g s t is_compare hs ht);
@@ -290,8 +291,8 @@ promises c g = record {
   too_many = λ e. tells-too-many c g.ends e;
   bad_key = λ e. tells-bad-key c g.ends e;
   read_fault = λ e. tells-read-fault c g.ends e;
-  shelf_count = λ moved. shelf-moved c.words c.shelf c.taken_before c.taken_now c.faults_before c.faults_now c.status g.ends moved;
-  sink_count = λ moved. sink-moved c.words c.shelf c.taken_before c.taken_now c.faults_before c.faults_now c.status g.ends moved;
+  shelf_count = λ moved. shelf-moved c.answer c.words c.shelf c.taken_before c.taken_now c.faults_before c.faults_now c.status g.ends moved;
+  sink_count = λ moved. sink-moved c.answer c.words c.shelf c.taken_before c.taken_now c.faults_before c.faults_now c.status g.ends moved;
   noted = g.noted;
   no_note = λ e other d is_d. no-note c g.noted e other d is_d;
   page_without_note = λ p asks. page-quiet c p asks g.noted;

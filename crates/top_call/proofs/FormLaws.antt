@@ -6,7 +6,7 @@ use Rattle.command_words.specs.declared.form.ScriptForm.{ScriptForm}
 use Rattle.command_words.specs.declared.form.ScriptForm.TheVariants as forms
 use Rattle.command_words.specs.declared.words.Task.{Task}
 use Rattle.command_words.specs.declared.words.Task.TheVariants as tasks
-use Rattle.command_words.specs.ScriptForms.{rulesets_of, scripts_of}
+use Rattle.command_words.specs.FormOptions.{rulesets_of, scripts_of}
 use Rattle.command_words.specs.WordForms.{plain_task}
 use Rattle.command_words.specs.Words.{Command, IsCommand}
 use Rattle.command_words.proofs.CommandWords.{one-command}

@@ -96,24 +96,24 @@ module _ (c : Call) where
   ended : (status : ℕ) (text : List ℕ) → EndsWith status text → Ended status c.status
   ended status text ends = ended-of status text c.taken_before c.taken_now c.faults_before c.faults_now c.status ends
 
-  pub goes-output : (d : Command) → IsCommand c.words d → HasRead c.shelf d → (refused : Bool) (text : List ℕ) → IsOutput d c.shelf.told refused text → EndsWith (done_status refused) text
+  pub goes-output : (d : Command) → IsCommand c.words d → HasRead c.shelf d → (refused : Bool) (text : List ℕ) → IsOutput c.answer d c.shelf.told refused text → EndsWith (done_status refused) text
       → (refusals : List Refusal) (failed : Bool) → AreRefused d c.shelf.told refused text refusals failed → (mid : Option (List ℕ)) → Tested d mid → MayTell (IsNoteDue d refused refusals failed) mid c.noted_now → Goes c
   goes-output d is_d r refused text is_output ends refusals failed are mid tests tells =
-      let has : HasOutput c.words c.shelf refused text = record { command = d; is_command = is_d; has_read = r; is_output = is_output } in
+      let has : HasOutput c.answer c.words c.shelf refused text = record { command = d; is_command = is_d; has_read = r; is_output = is_output } in
       record {
-        ends = ends-map (IsExactly (done_status refused) text) (IsDue c.words c.shelf) c.taken_before c.taken_now c.faults_before c.faults_now c.status (due-of-output c.words c.shelf refused text has) ends;
+        ends = ends-map (IsExactly (done_status refused) text) (IsDue c.answer c.words c.shelf) c.taken_before c.taken_now c.faults_before c.faults_now c.status (due-of-output c.answer c.words c.shelf refused text has) ends;
         names = asks-files c.words c.shelf d is_d r;
         all_read = λ e. asks-all c.words c.shelf d is_d r;
         noted = tested c d is_d mid tests (changes-noted c d refused text refusals failed has is_d are (ended (done_status refused) text ends) mid tells);
       }
 
   -- the sets of a ruleset are written
-  pub goes-sets : (d : Command) (file : List ℕ) → d ≡ sets_of file → IsCommand c.words d → HasRead c.shelf d → (refused : Bool) (text : List ℕ) → IsOutput d c.shelf.told refused text → EndsWith (done_status refused) text → MayTell (AreSkipsOf c.shelf.told file) c.noted_before c.noted_now → Goes c
+  pub goes-sets : (d : Command) (file : List ℕ) → d ≡ sets_of file → IsCommand c.words d → HasRead c.shelf d → (refused : Bool) (text : List ℕ) → IsOutput c.answer d c.shelf.told refused text → EndsWith (done_status refused) text → MayTell (AreSkipsOf c.shelf.told file) c.noted_before c.noted_now → Goes c
   goes-sets d file is is_d r refused text is_output ends tells =
-      let has : HasOutput c.words c.shelf refused text = record { command = d; is_command = is_d; has_read = r; is_output = is_output } in
+      let has : HasOutput c.answer c.words c.shelf refused text = record { command = d; is_command = is_d; has_read = r; is_output = is_output } in
       let is_sets : IsCommand c.words (sets_of file) = subst (λ (x : Command). IsCommand c.words x) is is_d in
       record {
-        ends = ends-map (IsExactly (done_status refused) text) (IsDue c.words c.shelf) c.taken_before c.taken_now c.faults_before c.faults_now c.status (due-of-output c.words c.shelf refused text has) ends;
+        ends = ends-map (IsExactly (done_status refused) text) (IsDue c.answer c.words c.shelf) c.taken_before c.taken_now c.faults_before c.faults_now c.status (due-of-output c.answer c.words c.shelf refused text has) ends;
         names = asks-files c.words c.shelf d is_d r;
         all_read = λ e. asks-all c.words c.shelf d is_d r;
         noted = tested c (sets_of file) is_sets c.noted_before (sets-unmet c.shelf.told file c.noted_before) (skips-noted c file refused text has is_sets (ended (done_status refused) text ends) c.noted_before tells);
@@ -121,7 +121,7 @@ module _ (c : Call) where
 
   goes-fault : (fault : Fault) → IsCause c.words c.shelf fault → AsksInOrder c.words c.shelf → EndsWith (status_of fault) (fault_line fault) → IsNoted c → Goes c
   goes-fault fault cause names ends noted = record {
-    ends = ends-map (IsExactly (status_of fault) (fault_line fault)) (IsDue c.words c.shelf) c.taken_before c.taken_now c.faults_before c.faults_now c.status (due-refusal c.words c.shelf fault cause) ends;
+    ends = ends-map (IsExactly (status_of fault) (fault_line fault)) (IsDue c.answer c.words c.shelf) c.taken_before c.taken_now c.faults_before c.faults_now c.status (due-refusal c.answer c.words c.shelf fault cause) ends;
     names = names;
     all_read = λ e. absurd (undone fault ends e);
     noted = noted;
@@ -172,7 +172,7 @@ module _ (c : Call) where
 
   pub goes-page : (p : Page) → AsksFor c.words p → c.shelf.asked ≡ [] → c.shelf.faults_now ≡ c.shelf.faults_before → Silent → EndsWith 0 (page_text p) → Goes c
   goes-page p asks nothing quiet silent ends = record {
-    ends = ends-map (IsExactly 0 (page_text p)) (IsDue c.words c.shelf) c.taken_before c.taken_now c.faults_before c.faults_now c.status (due-of-page c.words c.shelf p asks nothing quiet) ends;
+    ends = ends-map (IsExactly 0 (page_text p)) (IsDue c.answer c.words c.shelf) c.taken_before c.taken_now c.faults_before c.faults_now c.status (due-of-page c.answer c.words c.shelf p asks nothing quiet) ends;
     names = asks-nothing c.words c.shelf nothing;
     all_read = λ e d is_d. absurd (page-no-command c.words p d asks is_d);
     noted = record { noted = c.noted_before; tests = inl refl; all_tests = λ e d is_d. absurd (page-no-command c.words p d asks is_d); other = no_note silent };

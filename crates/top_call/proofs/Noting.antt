@@ -1,5 +1,6 @@
 -- The note for a person beside a call's output.
 use Rattle.std.proofs.Common.{◌≡◌, ◌∙◌, ap, ◌≤◌, refl, sym, subst, ℕ, Bool, true, List, Option, inl, inr, arith, false, [], ◌∷◌, ◌⊎◌, None, Result, Ok, Err, OnOk, OnErr}
+use Rattle.command_words.specs.declared.form.AnswerForm.{AnswerForm}
 use Rattle.command_words.specs.declared.page.Page.{Page}
 use Rattle.command_words.specs.Words.{Command, IsCommand, IsNoCommand, IsSetsCommand, AsksFor, desk, get, compare, sets_of}
 use Rattle.command_words.proofs.CommandWords.{one-command}
@@ -43,13 +44,13 @@ ended-above : (due status : ℕ) → 1 ≤ due → Ended due status → status �
 ended-above due status above (inl is) e = omega (arith, above, is, e)
 ended-above due status above (inr is) e = omega (arith, is, e)
 
-due-above : (words : List (List ℕ)) (shelf : Shelved) (status : ℕ) (text : List ℕ) → IsDueNote words shelf status text → status ≡ 0 → ((file : List ℕ) → IsSetsCommand words file → ⊥) → ⊥
-due-above words shelf status text (on_words t none is ended) e other = ended-above 2 status (omega arith) ended e
-due-above words shelf status text (on_file d fault stops t is_d is ended) e other = ended-above (file_status fault) status (let above = file-above fault in omega (arith, above)) ended e
-due-above words shelf status text (on_sections name t has is ended) e other = ended-above 12 status (omega arith) ended e
-due-above words shelf status text (on_key line reason t has begins ended) e other = ended-above 13 status (omega arith) ended e
-due-above words shelf status text (on_changes c name output t refusals failed has is_c names are is ended) e other = ended-above 1 status (omega arith) ended e
-due-above words shelf status text (on_skips file output t refused has is_sets are ended) e other = other file is_sets
+due-above : (answer : AnswerForm) (words : List (List ℕ)) (shelf : Shelved) (status : ℕ) (text : List ℕ) → IsDueNote answer words shelf status text → status ≡ 0 → ((file : List ℕ) → IsSetsCommand words file → ⊥) → ⊥
+due-above answer words shelf status text (on_words t none is ended) e other = ended-above 2 status (omega arith) ended e
+due-above answer words shelf status text (on_file d fault stops t is_d is ended) e other = ended-above (file_status fault) status (let above = file-above fault in omega (arith, above)) ended e
+due-above answer words shelf status text (on_sections name t has is ended) e other = ended-above 12 status (omega arith) ended e
+due-above answer words shelf status text (on_key line reason t has begins ended) e other = ended-above 13 status (omega arith) ended e
+due-above answer words shelf status text (on_changes c name output t refusals failed has is_c names are is ended) e other = ended-above 1 status (omega arith) ended e
+due-above answer words shelf status text (on_skips file output t refused has is_sets are ended) e other = other file is_sets
 
 -- Who knows the answer knows what was printed beside an error.
 pub error-told : (error : AnswerError) {before now : Option (List ℕ)} {answer : Bool} → SaysTold (IsErrorNote error) before now answer → TellsError error before now
@@ -106,17 +107,17 @@ skips-of told file whole slice kept skips before now same read tells =
     (λ note is text at. let r = (read text at).1 in is ∙ ap (λ (t : List ℕ). skips_text file t skips) (same ∙ r.0) ∙ ap (λ (ss : List Skipped). skips_text file text ss) r.1.skips_are) tells
 
 -- No note is due to words that ask for a page.
-page-due : (words : List (List ℕ)) (shelf : Shelved) (status : ℕ) (text : List ℕ) (p : Page) → AsksFor words p → IsDueNote words shelf status text → ⊥
-page-due words shelf status text p asks (on_words t none is ended) = none.no_page p asks
-page-due words shelf status text p asks (on_file d fault stops t is_d is ended) = page-no-command words p d asks is_d
-page-due words shelf status text p asks (on_sections name t has is ended) = page-no-command words p (desk name has.keep_going) asks has.is_desk
-page-due words shelf status text p asks (on_key line reason t has begins ended) = page-no-command words p (get has.name has.key has.moment has.keep_going) asks has.is_get
-page-due words shelf status text p asks (on_changes c name output t refusals failed has is_c names are is ended) = page-no-command words p has.command asks has.is_command
-page-due words shelf status text p asks (on_skips file output t refused has is_sets are ended) = page-no-command words p (sets_of file) asks is_sets
+page-due : (answer : AnswerForm) (words : List (List ℕ)) (shelf : Shelved) (status : ℕ) (text : List ℕ) (p : Page) → AsksFor words p → IsDueNote answer words shelf status text → ⊥
+page-due answer words shelf status text p asks (on_words t none is ended) = none.no_page p asks
+page-due answer words shelf status text p asks (on_file d fault stops t is_d is ended) = page-no-command words p d asks is_d
+page-due answer words shelf status text p asks (on_sections name t has is ended) = page-no-command words p (desk name has.keep_going) asks has.is_desk
+page-due answer words shelf status text p asks (on_key line reason t has begins ended) = page-no-command words p (get has.name has.key has.moment has.keep_going) asks has.is_get
+page-due answer words shelf status text p asks (on_changes c name output t refusals failed has is_c names are is ended) = page-no-command words p has.command asks has.is_command
+page-due answer words shelf status text p asks (on_skips file output t refused has is_sets are ended) = page-no-command words p (sets_of file) asks is_sets
 
 module _ (c : Call) where
   abbrev pub IsDueAfter : Option (List ℕ) → Type 0
-  IsDueAfter mid = MayTell (IsDueNote c.words c.shelf c.status) mid c.noted_now
+  IsDueAfter mid = MayTell (IsDueNote c.answer c.words c.shelf c.status) mid c.noted_now
 
   -- There is no output, and nothing is written on tests.
   pub untested : (IsComplete c.status → ⊥) → IsDueAfter c.noted_before → IsNoted c
@@ -132,14 +133,14 @@ module _ (c : Call) where
   no-note n e other d is_d = subst (λ (b : Option (List ℕ)). TellsUnmet c.shelf.told d c.noted_before b) (sym (still n.other)) (n.all_tests (inl e) d is_d) where
     still : IsDueAfter n.noted → c.noted_now ≡ n.noted
     still (nothing same) = same
-    still (note text quiet due told) = absurd (due-above c.words c.shelf c.status text due e other)
+    still (note text quiet due told) = absurd (due-above c.answer c.words c.shelf c.status text due e other)
 
   -- With a page no note was written.
   pub page-quiet : (p : Page) → AsksFor c.words p → IsNoted c → c.noted_now ≡ c.noted_before
   page-quiet p asks n = still n.other ∙ untold n.tests where
     still : IsDueAfter n.noted → c.noted_now ≡ n.noted
     still (nothing same) = same
-    still (note text quiet due told) = absurd (page-due c.words c.shelf c.status text p asks due)
+    still (note text quiet due told) = absurd (page-due c.answer c.words c.shelf c.status text p asks due)
 
     untold : SaysUnmet c.words c.shelf.told c.noted_before n.noted → n.noted ≡ c.noted_before
     untold (inl same) = same
@@ -147,29 +148,29 @@ module _ (c : Call) where
 
   -- The note on words that are no command is due.
   pub words-noted : IsNoCommand c.words → Ended 2 c.status → MayTell (Begins words_front) c.noted_before c.noted_now → IsDueAfter c.noted_before
-  words-noted none ended tells = tells-as (Begins words_front) (IsDueNote c.words c.shelf c.status) c.noted_before c.noted_now (λ text is. on_words text none is ended) tells
+  words-noted none ended tells = tells-as (Begins words_front) (IsDueNote c.answer c.words c.shelf c.status) c.noted_before c.noted_now (λ text is. on_words text none is ended) tells
 
   -- The note on a file that can't be had is due.
   pub file-noted : (d : Command) (fault : FileFault) → IsCommand c.words d → StopsTelling c.shelf d c.noted_before c.noted_now fault → Ended (file_status fault) c.status → IsDueAfter c.noted_before
   file-noted d fault is_d s ended =
-      tells-as (IsNoteOn c.shelf.told s.stops.sets s.stops.input.name fault) (IsDueNote c.words c.shelf c.status) c.noted_before c.noted_now (λ text is. on_file d fault s.stops text is_d is ended) s.noted
+      tells-as (IsNoteOn c.shelf.told s.stops.sets s.stops.input.name fault) (IsDueNote c.answer c.words c.shelf c.status) c.noted_before c.noted_now (λ text is. on_file d fault s.stops text is_d is ended) s.noted
 
   -- The note on a desk's script with too many sections is due.
   pub sections-noted : (name : List ℕ) → HasManySections c.words c.shelf name → Ended 12 c.status → (mid : Option (List ℕ)) → MayTell (Begins (name_text name)) mid c.noted_now → IsDueAfter mid
-  sections-noted name has ended mid tells = tells-as (Begins (name_text name)) (IsDueNote c.words c.shelf c.status) mid c.noted_now (λ text is. on_sections name text has is ended) tells
+  sections-noted name has ended mid tells = tells-as (Begins (name_text name)) (IsDueNote c.answer c.words c.shelf c.status) mid c.noted_now (λ text is. on_sections name text has is ended) tells
 
   -- The note on words of a `get` that are no key is due.
   pub key-noted : (line : ℕ) (reason : Reason) → HasNoKey c.words c.shelf line reason → Ended 13 c.status → (mid : Option (List ℕ)) → MayTell (BeginsAtPlace (codes "key")) mid c.noted_now → IsDueAfter mid
-  key-noted line reason has ended mid tells = tells-as (BeginsAtPlace (codes "key")) (IsDueNote c.words c.shelf c.status) mid c.noted_now (λ text is. on_key line reason text has is ended) tells
+  key-noted line reason has ended mid tells = tells-as (BeginsAtPlace (codes "key")) (IsDueNote c.answer c.words c.shelf c.status) mid c.noted_now (λ text is. on_key line reason text has is ended) tells
 
   -- The note on refused changes is due.
-  pub changes-noted : (d : Command) (refused : Bool) (output : List ℕ) (refusals : List Refusal) (failed : Bool) → HasOutput c.words c.shelf refused output → IsCommand c.words d → AreRefused d c.shelf.told refused output refusals failed
+  pub changes-noted : (d : Command) (refused : Bool) (output : List ℕ) (refusals : List Refusal) (failed : Bool) → HasOutput c.answer c.words c.shelf refused output → IsCommand c.words d → AreRefused d c.shelf.told refused output refusals failed
       → Ended (done_status refused) c.status → (mid : Option (List ℕ)) → MayTell (IsNoteDue d refused refusals failed) mid c.noted_now → IsDueAfter mid
   changes-noted d refused output refusals failed has is_d are ended mid tells =
-      tells-as (IsNoteDue d refused refusals failed) (IsDueNote c.words c.shelf c.status) mid c.noted_now
-      (λ text is. on_changes d is.0 output text refusals failed (subst (λ (r : Bool). HasOutput c.words c.shelf r output) is.2 has) is_d is.1 (subst (λ (r : Bool). AreRefused d c.shelf.told r output refusals failed) is.2 are) is.3 (subst (λ (r : Bool). Ended (done_status r) c.status) is.2 ended)) tells
+      tells-as (IsNoteDue d refused refusals failed) (IsDueNote c.answer c.words c.shelf c.status) mid c.noted_now
+      (λ text is. on_changes d is.0 output text refusals failed (subst (λ (r : Bool). HasOutput c.answer c.words c.shelf r output) is.2 has) is_d is.1 (subst (λ (r : Bool). AreRefused d c.shelf.told r output refusals failed) is.2 are) is.3 (subst (λ (r : Bool). Ended (done_status r) c.status) is.2 ended)) tells
 
   -- The note on what isn't kept of a ruleset is due.
-  pub skips-noted : (file : List ℕ) (refused : Bool) (output : List ℕ) → HasOutput c.words c.shelf refused output → IsSetsCommand c.words file → Ended (done_status refused) c.status
+  pub skips-noted : (file : List ℕ) (refused : Bool) (output : List ℕ) → HasOutput c.answer c.words c.shelf refused output → IsSetsCommand c.words file → Ended (done_status refused) c.status
       → (mid : Option (List ℕ)) → MayTell (AreSkipsOf c.shelf.told file) mid c.noted_now → IsDueAfter mid
-  skips-noted file refused output has is_sets ended mid tells = tells-as (AreSkipsOf c.shelf.told file) (IsDueNote c.words c.shelf c.status) mid c.noted_now (λ text are. on_skips file output text refused has is_sets are ended) tells
+  skips-noted file refused output has is_sets ended mid tells = tells-as (AreSkipsOf c.shelf.told file) (IsDueNote c.answer c.words c.shelf c.status) mid c.noted_now (λ text are. on_skips file output text refused has is_sets are ended) tells

@@ -6,6 +6,7 @@ use Rattle.pip_base.specs.Whole.{AppendsFront}
 use Rattle.set_model.specs.Control.{mode_of}
 use Rattle.token_forms.specs.declared.token.Reason.{Reason}
 use Rattle.script_run.specs.Drill.{drill_text}
+use Rattle.command_words.specs.declared.form.AnswerForm.{AnswerForm}
 use Rattle.command_words.specs.declared.page.Page.{Page}
 use Rattle.command_words.specs.WordForms.{page_text}
 use Rattle.command_words.specs.Words.{Command, IsCommand, AsksFor, IsRunCommand, IsListCommand, IsDumpCommand, IsDrillCommand, IsJudgeCommand, IsCaptureCommand, IsDeskCommand, IsGetCommand, IsExplainCommand, IsCompareCommand, IsStatCommand, IsJudgeCaptureCommand, IsSetsCommand}
@@ -19,20 +20,20 @@ use Rattle.top_call.specs.Calls.{Call}
 use Rattle.top_call.specs.Causes.{IsCause, HasManySections, HasNoKey}
 use Rattle.top_call.specs.Lines.{done_status, form_status, status_of, fault_line, flaw_line, read_fault_line, too_many_line, bad_key_line}
 
--- The command of these words has this output: all its files were asked for and read, no fault was counted, and this
+-- The command of these words has this output, in the form of this answer: all its files were asked for and read, no fault was counted, and this
 -- is what the command does.
-pub record HasOutput (words : List (List ℕ)) (shelf : Shelved) (refused : Bool) (text : List ℕ) : Type 0 where
+pub record HasOutput (answer : AnswerForm) (words : List (List ℕ)) (shelf : Shelved) (refused : Bool) (text : List ℕ) : Type 0 where
   pub command : Command
   pub is_command : IsCommand words command
   pub has_read : HasRead shelf command
-  pub is_output : IsOutput command shelf.told refused text
+  pub is_output : IsOutput answer command shelf.told refused text
 
 -- The status and text that are due. A command's output has 0 or 1. A page has 0, if the words ask for it and no file
 -- was asked for. A fault has its own status and line, if its cause is there.
-pub data IsDue (words : List (List ℕ)) (shelf : Shelved) : ℕ → List ℕ → Type 0 where
-  output : (refused : Bool) (text : List ℕ) → HasOutput words shelf refused text → IsDue words shelf (done_status refused) text
-  page : (p : Page) → AsksFor words p → shelf.asked ≡ [] → shelf.faults_now ≡ shelf.faults_before → IsDue words shelf 0 (page_text p)
-  refusal : (fault : Fault) → IsCause words shelf fault → IsDue words shelf (status_of fault) (fault_line fault)
+pub data IsDue (answer : AnswerForm) (words : List (List ℕ)) (shelf : Shelved) : ℕ → List ℕ → Type 0 where
+  output : (refused : Bool) (text : List ℕ) → HasOutput answer words shelf refused text → IsDue answer words shelf (done_status refused) text
+  page : (p : Page) → AsksFor words p → shelf.asked ≡ [] → shelf.faults_now ≡ shelf.faults_before → IsDue answer words shelf 0 (page_text p)
+  refusal : (fault : Fault) → IsCause words shelf fault → IsDue answer words shelf (status_of fault) (fault_line fault)
 
 -- this status and this text, and no other
 abbrev pub IsExactly : ℕ → List ℕ → ℕ → List ℕ → Type 0
@@ -47,7 +48,7 @@ pub data Ends (due : ℕ → List ℕ → Type 0) (taken_before taken_now : Opti
 
 -- A call ends with what is due to its words and files.
 abbrev pub EndsDuly : Call → Type 0
-EndsDuly c = Ends (IsDue c.words c.shelf) c.taken_before c.taken_now c.faults_before c.faults_now c.status
+EndsDuly c = Ends (IsDue c.answer c.words c.shelf) c.taken_before c.taken_now c.faults_before c.faults_now c.status
 
 -- the whole output was written
 abbrev pub IsComplete : ℕ → Type 0
@@ -66,7 +67,7 @@ Writes IsText c =
 abbrev pub Transcribes : Call → Type 0
 Transcribes c =
     (script keys script_text keys_text : List ℕ) (threads : ℕ) (keep_going : Bool) → IsRunCommand c.words script keys threads keep_going → c.shelf.told script ≡ Some script_text → c.shelf.told keys ≡ Some keys_text
-    → Writes (IsTranscript script_text keys_text threads (mode_of keep_going)) c
+    → Writes (IsTranscript c.answer script_text keys_text threads (mode_of keep_going)) c
 
 -- The same of a rules file's chains, which judge each packet by the sets of one generation.
 abbrev pub Judges : Call → Type 0
@@ -80,7 +81,7 @@ abbrev pub Captures : Call → Type 0
 Captures c =
     (script plan packets script_text plan_text capture_text : List ℕ) (threads : ℕ) (keep_going : Bool) → IsCaptureCommand c.words script plan packets threads keep_going
     → c.shelf.told script ≡ Some script_text → c.shelf.told plan ≡ Some plan_text → c.shelf.told packets ≡ Some capture_text
-    → Writes (IsCaptured script_text plan_text capture_text threads (mode_of keep_going)) c
+    → Writes (IsCaptured c.answer script_text plan_text capture_text threads (mode_of keep_going)) c
 
 -- The same of both: chains judge the packets that the plan takes from the capture.
 abbrev pub JudgesCaptures : Call → Type 0

@@ -1,12 +1,14 @@
 -- A call of the program, as its outside shows it.
 use Rattle.std.specs.Prelude.{ℕ, List, Option}
 use Rattle.pip_base.specs.Causes.{Rose}
+use Rattle.command_words.specs.declared.form.AnswerForm.{AnswerForm}
 use Rattle.input_files.specs.Reads.{Shelved}
 
--- The words; what the shelf shows; what the sink took and how often it failed, before and after the call; the notes
+-- The words, without the options of forms; the form of the answer that they ask for; what the shelf shows; what the sink took and how often it failed, before and after the call; the notes
 -- before and after the call; and the status. A sink or notes may show nothing of what they took.
 pub record Call : Type 1 where
   pub words : List (List ℕ)
+  pub answer : AnswerForm
   pub shelf : Shelved
   pub taken_before : Option (List ℕ)
   pub taken_now : Option (List ℕ)

@@ -8,7 +8,7 @@ use Rattle.set_model.specs.declared.packet.Packet.{Packet}
 use Rattle.set_model.specs.declared.report.Line.{Line}
 use Rattle.set_model.specs.Control.{Mode, mode_of, has_refusal}
 use Rattle.set_model.specs.Legal.{AreLegal, Legal}
-use Rattle.set_model.specs.Text.{run_text, transcript_text}
+use Rattle.set_model.specs.Text.{run_text}
 use Rattle.rule_chain.specs.Chains.{Rules}
 use Rattle.rule_chain.specs.Judged.{IsJudged}
 use Rattle.rule_chain.specs.JudgedText.{judged_text}
@@ -37,6 +37,7 @@ use Rattle.input_files.specs.Given.{Has, AreGiven}
 use Rattle.top_call.specs.Transcript.{AreRulesOf, most_sections, leaves_any}
 use Rattle.top_call.specs.Calls.{Call}
 use Rattle.top_call.specs.Lines.{done_status, form_status}
+use Rattle.top_call.specs.Texts.{run_output}
 use Rattle.top_call.specs.Answers.{Delivers, TellsPage}
 
 -- A file's bytes, within their size, are read as this script.
@@ -119,11 +120,11 @@ pub record DeliversText (mode : Mode) (s : Script) (text : List ℕ) (c : Call) 
 abbrev pub RanOut : Call → Type 0
 RanOut c = (c.status ≡ 7) × Keeps c.taken_before c.taken_now
 
--- The transcript of a script and a key file was written, with so many threads.
+-- The transcript of a script and a key file was written in the form of the answer, with so many threads.
 pub record DeliversRun (threads : ℕ) (mode : Mode) (s : Script) (keys : List (List Packet)) (c : Call) : Type 0 where
   pub lines : List Line
   pub legal : Legal s keys threads mode lines
-  pub delivers : DeliversText mode s (transcript_text mode s keys lines) c
+  pub delivers : DeliversText mode s (run_output c.answer mode s keys lines) c
 
 -- The transcript of a script and a key file was written, with so many threads, and the chains' verdict on each
 -- packet.

@@ -3,7 +3,7 @@
 use Rattle.std.specs.Prelude.{◌≡◌, ◌≢◌, ◌⊎◌, ℕ, ◌==◌, Bool, true, false, ◌&&◌, if◌then◌else◌, List, [], All, Option}
 use Rattle.command_words.specs.declared.form.ScriptForm.{ScriptForm}
 use Rattle.command_words.specs.declared.form.ScriptForm.TheVariants as forms
-use Rattle.command_words.specs.ScriptForms.{scripts_of}
+use Rattle.command_words.specs.FormOptions.{scripts_of}
 use Rattle.command_words.specs.Words.{Command, IsCommand, compare}
 use Rattle.pip_base.specs.Notes.{Tells}
 use Rattle.token_notes.specs.Shown.{IsNoteByte}
@@ -50,6 +50,7 @@ pub record CountsLeftOut (words : List (List ℕ)) (leaves : Bool) (other status
 abbrev pub seen_call : List (List ℕ) → Option (List ℕ) → ℕ → Call → Call
 seen_call rulesets noted status c = record {
   words = c.words;
+  answer = c.answer;
   shelf = record { told = seen rulesets c.shelf.told; asked = c.shelf.asked; faults_before = c.shelf.faults_before; faults_now = c.shelf.faults_now; picked_before = c.shelf.picked_before; picked_now = c.shelf.picked_now; left = c.shelf.left };
   taken_before = c.taken_before;
   taken_now = c.taken_now;

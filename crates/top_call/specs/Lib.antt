@@ -1,3 +1,4 @@
+pub mod Texts
 pub mod Transcript
 pub mod Lines
 pub mod Calls

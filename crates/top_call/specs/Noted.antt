@@ -1,5 +1,6 @@
 -- The note for a person beside a call's output.
 use Rattle.std.specs.Prelude.{◌≡◌, ◌⊎◌, ℕ, true, List, codes, Bool, Option, Some}
+use Rattle.command_words.specs.declared.form.AnswerForm.{AnswerForm}
 use Rattle.command_words.specs.Words.{Command, IsCommand, IsNoCommand, IsSetsCommand}
 use Rattle.token_notes.specs.Shown.{Begins, BeginsAtPlace, name_text}
 use Rattle.key_answer.specs.declared.question.AnswerError.{AnswerError}
@@ -47,13 +48,13 @@ TellsError Memory before now = now ≡ before
 -- has too many sections. One begins with a place in the words of a `get` that are no key. One is on the command's refused changes. It has a line for each of the first 20, with the script's
 -- name and the change's line, and how many more there are. One is on what isn't kept of a ruleset whose sets are written. It has a
 -- line for each item and each part.
-pub data IsDueNote (words : List (List ℕ)) (shelf : Shelved) (status : ℕ) : List ℕ → Type 0 where
-  on_words : (text : List ℕ) → IsNoCommand words → Begins words_front text → Ended 2 status → IsDueNote words shelf status text
-  on_file : (c : Command) (fault : FileFault) (stops : StopsAt shelf c fault) (text : List ℕ) → IsCommand words c → IsNoteOn shelf.told stops.sets stops.input.name fault text → Ended (file_status fault) status → IsDueNote words shelf status text
-  on_sections : (name text : List ℕ) → HasManySections words shelf name → Begins (name_text name) text → Ended 12 status → IsDueNote words shelf status text
-  on_key : (line : ℕ) (reason : Reason) (text : List ℕ) → HasNoKey words shelf line reason → BeginsAtPlace (codes "key") text → Ended 13 status → IsDueNote words shelf status text
-  on_changes : (c : Command) (name output text : List ℕ) (refusals : List Refusal) (failed : Bool) → HasOutput words shelf true output → IsCommand words c → NamesScript c name → AreRefused c shelf.told true output refusals failed → IsNoteOnChanges name refusals failed text → Ended 1 status → IsDueNote words shelf status text
-  on_skips : (file output text : List ℕ) (refused : Bool) → HasOutput words shelf refused output → IsSetsCommand words file → AreSkipsOf shelf.told file text → Ended (done_status refused) status → IsDueNote words shelf status text
+pub data IsDueNote (answer : AnswerForm) (words : List (List ℕ)) (shelf : Shelved) (status : ℕ) : List ℕ → Type 0 where
+  on_words : (text : List ℕ) → IsNoCommand words → Begins words_front text → Ended 2 status → IsDueNote answer words shelf status text
+  on_file : (c : Command) (fault : FileFault) (stops : StopsAt shelf c fault) (text : List ℕ) → IsCommand words c → IsNoteOn shelf.told stops.sets stops.input.name fault text → Ended (file_status fault) status → IsDueNote answer words shelf status text
+  on_sections : (name text : List ℕ) → HasManySections words shelf name → Begins (name_text name) text → Ended 12 status → IsDueNote answer words shelf status text
+  on_key : (line : ℕ) (reason : Reason) (text : List ℕ) → HasNoKey words shelf line reason → BeginsAtPlace (codes "key") text → Ended 13 status → IsDueNote answer words shelf status text
+  on_changes : (c : Command) (name output text : List ℕ) (refusals : List Refusal) (failed : Bool) → HasOutput answer words shelf true output → IsCommand words c → NamesScript c name → AreRefused c shelf.told true output refusals failed → IsNoteOnChanges name refusals failed text → Ended 1 status → IsDueNote answer words shelf status text
+  on_skips : (file output text : List ℕ) (refused : Bool) → HasOutput answer words shelf refused output → IsSetsCommand words file → AreSkipsOf shelf.told file text → Ended (done_status refused) status → IsDueNote answer words shelf status text
 
 -- A call first writes the lines on the tests of its rules that no packet can meet: all of them, if its whole output was written.
 -- After them it writes no note, or one note that is due.
@@ -61,4 +62,4 @@ pub record IsNoted (c : Call) : Type 0 where
   pub noted : Option (List ℕ)
   pub tests : SaysUnmet c.words c.shelf.told c.noted_before noted
   pub all_tests : IsComplete c.status → (d : Command) → IsCommand c.words d → TellsUnmet c.shelf.told d c.noted_before noted
-  pub other : MayTell (IsDueNote c.words c.shelf c.status) noted c.noted_now
+  pub other : MayTell (IsDueNote c.answer c.words c.shelf c.status) noted c.noted_now

@@ -13,7 +13,7 @@ use Rattle.set_model.specs.declared.packet.Packet.{Packet}
 use Rattle.set_model.specs.declared.report.Line.{Line}
 use Rattle.set_model.specs.Control.{Mode, mode_of, has_refusal}
 use Rattle.set_model.specs.Legal.{AreLegal, Legal}
-use Rattle.set_model.specs.Text.{run_text, transcript_text}
+use Rattle.set_model.specs.Text.{run_text}
 use Rattle.rule_chain.specs.Chains.{Rules}
 use Rattle.rule_chain.specs.Judged.{IsJudged}
 use Rattle.rule_chain.specs.JudgedText.{judged_text}
@@ -28,36 +28,39 @@ use Rattle.script_run.specs.Listings.{listing_text, tables_text}
 use Rattle.stat_answer.specs.StatText.{stat_text}
 use Rattle.script_run.specs.Drill.{drill_text}
 use Rattle.desk_run.specs.DeskText.{IsDeskText}
+use Rattle.command_words.specs.declared.form.AnswerForm.{AnswerForm}
 use Rattle.command_words.specs.Words.{Command, run, list, dump, drill, judge, capture, desk, get, explain, compare, stat, judge_capture, sets_of}
 use Rattle.input_files.specs.declared.work.Work.{Work}
 use Rattle.input_files.specs.declared.work.Work.TheVariants as works
+use Rattle.top_call.specs.Texts.{run_output}
 
 -- A text is read as these rules over the sets of a script.
 pub record AreRulesOf (script : Script) (text : List ℕ) (rules : Rules) : Type 0 where
   pub over : rules.schema ≡ script.schema
   pub is_text : IsRulesText script.schema text (rules.chains, rules.accept)
 
--- The output is the text of a legal transcript, with so many threads, of the script and the key file in these texts.
+-- The output is the text, in the form of this answer, of a legal transcript, with so many threads, of the script and the key file
+-- in these texts.
 -- It reports a refusal exactly if a change of the script is refused.
-pub record IsTranscript (script_text keys_text : List ℕ) (threads : ℕ) (mode : Mode) (refused : Bool) (output : List ℕ) : Type 0 where
+pub record IsTranscript (answer : AnswerForm) (script_text keys_text : List ℕ) (threads : ℕ) (mode : Mode) (refused : Bool) (output : List ℕ) : Type 0 where
   pub script : Script
   pub keys : List (List Packet)
   pub lines : List Line
   pub script_is : IsScriptText script_text script
   pub keys_are : IsKeysText script.schema keys_text keys
   pub legal : Legal script keys threads mode lines
-  pub text : output ≡ transcript_text mode script keys lines
+  pub text : output ≡ run_output answer mode script keys lines
   pub refusal : refused ≡ has_refusal mode script
 
 -- The same of a capture: the packets that a plan makes of its frames are those of one key section.
-pub record IsCaptured (script_text plan_text capture_text : List ℕ) (threads : ℕ) (mode : Mode) (refused : Bool) (output : List ℕ) : Type 0 where
+pub record IsCaptured (answer : AnswerForm) (script_text plan_text capture_text : List ℕ) (threads : ℕ) (mode : Mode) (refused : Bool) (output : List ℕ) : Type 0 where
   pub script : Script
   pub packets : List Packet
   pub lines : List Line
   pub script_is : IsScriptText script_text script
   pub captured : AreCaptured script.schema plan_text capture_text packets
   pub legal : Legal script (packets ∷ []) threads mode lines
-  pub text : output ≡ transcript_text mode script (packets ∷ []) lines
+  pub text : output ≡ run_output answer mode script (packets ∷ []) lines
   pub refusal : refused ≡ has_refusal mode script
 
 -- The same of a rules file: its chains decide on each packet by the sets of one generation. A decision takes the
@@ -152,33 +155,33 @@ pub record AreSetsIn (text : List ℕ) (refused : Bool) (output : List ℕ) : Ty
   pub is_script : IsScriptText output script
   pub refusal : refused ≡ leaves_any text
 
--- What a command writes, by the bytes under its files' names, and whether its text reports a refusal.
-abbrev pub IsOutput : Command → (List ℕ → Option (List ℕ)) → Bool → List ℕ → Type 0
-IsOutput (run script keys threads keep_going) told refused output = (script_text keys_text : List ℕ) → told script ≡ Some script_text → told keys ≡ Some keys_text → IsTranscript script_text keys_text threads (mode_of keep_going) refused output
-IsOutput (list script keep_going) told refused output = (script_text : List ℕ) → told script ≡ Some script_text → IsListing script_text (mode_of keep_going) refused output
-IsOutput (dump script keep_going) told refused output = (script_text : List ℕ) → told script ≡ Some script_text → IsTables script_text (mode_of keep_going) refused output
-IsOutput (stat script keep_going) told refused output = (script_text : List ℕ) → told script ≡ Some script_text → IsStat script_text (mode_of keep_going) refused output
-IsOutput (drill seed count threads) told refused output = (refused ≡ false) × (output ≡ drill_text seed count)
-IsOutput (judge script rules keys threads keep_going) told refused output =
+-- What a command writes in the form of an answer, by the bytes under its files' names, and whether its text reports a refusal.
+abbrev pub IsOutput : AnswerForm → Command → (List ℕ → Option (List ℕ)) → Bool → List ℕ → Type 0
+IsOutput answer (run script keys threads keep_going) told refused output = (script_text keys_text : List ℕ) → told script ≡ Some script_text → told keys ≡ Some keys_text → IsTranscript answer script_text keys_text threads (mode_of keep_going) refused output
+IsOutput answer (list script keep_going) told refused output = (script_text : List ℕ) → told script ≡ Some script_text → IsListing script_text (mode_of keep_going) refused output
+IsOutput answer (dump script keep_going) told refused output = (script_text : List ℕ) → told script ≡ Some script_text → IsTables script_text (mode_of keep_going) refused output
+IsOutput answer (stat script keep_going) told refused output = (script_text : List ℕ) → told script ≡ Some script_text → IsStat script_text (mode_of keep_going) refused output
+IsOutput answer (drill seed count threads) told refused output = (refused ≡ false) × (output ≡ drill_text seed count)
+IsOutput answer (judge script rules keys threads keep_going) told refused output =
     (script_text rules_text keys_text : List ℕ) → told script ≡ Some script_text → told rules ≡ Some rules_text → told keys ≡ Some keys_text
     → IsJudgement script_text rules_text keys_text threads (mode_of keep_going) refused output
-IsOutput (judge_capture script rules plan packets threads keep_going) told refused output =
+IsOutput answer (judge_capture script rules plan packets threads keep_going) told refused output =
     (script_text rules_text plan_text capture_text : List ℕ) → told script ≡ Some script_text → told rules ≡ Some rules_text → told plan ≡ Some plan_text → told packets ≡ Some capture_text
     → IsJudgedCapture script_text rules_text plan_text capture_text threads (mode_of keep_going) refused output
-IsOutput (capture script plan packets threads keep_going) told refused output =
+IsOutput answer (capture script plan packets threads keep_going) told refused output =
     (script_text plan_text capture_text : List ℕ) → told script ≡ Some script_text → told plan ≡ Some plan_text → told packets ≡ Some capture_text
-    → IsCaptured script_text plan_text capture_text threads (mode_of keep_going) refused output
-IsOutput (desk script keep_going) told refused output = (script_text : List ℕ) → told script ≡ Some script_text → IsWovenOf script_text keep_going refused output
-IsOutput (get script key moment keep_going) told refused output = (script_text : List ℕ) → told script ≡ Some script_text → IsAnswerOf script_text key moment (mode_of keep_going) refused output
-IsOutput (explain script keys keep_going) told refused output = (script_text keys_text : List ℕ) → told script ≡ Some script_text → told keys ≡ Some keys_text → IsExplanationOf script_text keys_text (mode_of keep_going) refused output
-IsOutput (sets_of file) told refused output = (text : List ℕ) → told file ≡ Some text → AreSetsIn text refused output
-IsOutput (compare first second keep_going) told refused output = (first_text second_text : List ℕ) → told first ≡ Some first_text → told second ≡ Some second_text → IsComparisonOf first first_text second second_text (mode_of keep_going) refused output
+    → IsCaptured answer script_text plan_text capture_text threads (mode_of keep_going) refused output
+IsOutput answer (desk script keep_going) told refused output = (script_text : List ℕ) → told script ≡ Some script_text → IsWovenOf script_text keep_going refused output
+IsOutput answer (get script key moment keep_going) told refused output = (script_text : List ℕ) → told script ≡ Some script_text → IsAnswerOf script_text key moment (mode_of keep_going) refused output
+IsOutput answer (explain script keys keep_going) told refused output = (script_text keys_text : List ℕ) → told script ≡ Some script_text → told keys ≡ Some keys_text → IsExplanationOf script_text keys_text (mode_of keep_going) refused output
+IsOutput answer (sets_of file) told refused output = (text : List ℕ) → told file ≡ Some text → AreSetsIn text refused output
+IsOutput answer (compare first second keep_going) told refused output = (first_text second_text : List ℕ) → told first ≡ Some first_text → told second ≡ Some second_text → IsComparisonOf first first_text second second_text (mode_of keep_going) refused output
 
--- The lines are legal ones of a script and its packets, and the text is the text of their transcript.
-pub record HasTranscript (s : Script) (packets : List (List Packet)) (threads : ℕ) (mode : Mode) (text : List ℕ) : Type 0 where
+-- The lines are legal ones of a script and its packets, and the text is the text of their transcript in the form of this answer.
+pub record HasTranscript (answer : AnswerForm) (s : Script) (packets : List (List Packet)) (threads : ℕ) (mode : Mode) (text : List ℕ) : Type 0 where
   pub lines : List Line
   pub legal : Legal s packets threads mode lines
-  pub text_is : text ≡ transcript_text mode s packets lines
+  pub text_is : text ≡ run_output answer mode s packets lines
 
 -- The same if chains judge the packets.
 pub record HasJudgement (s : Script) (rules : Rules) (packets : List (List Packet)) (threads : ℕ) (mode : Mode) (text : List ℕ) : Type 0 where
@@ -211,23 +214,23 @@ pub record IsOverfull (c : Command) (work : Work) (name : Bor (List ℕ)) : Type
   pub is_name : c ≡ desk name.now keep_going
   pub many : most_sections < length script.sections
 
--- The text of a command's work, and whether it reports a refusal.
-abbrev pub GivesText : Work → Bool → List ℕ → Type 0
-GivesText (works.Run s packets threads keep_going) refused text = HasTranscript s packets threads (mode_of keep_going) text × (refused ≡ has_refusal (mode_of keep_going) s)
-GivesText (works.List s keep_going) refused text = (text ≡ listing_text (mode_of keep_going) s) × (refused ≡ has_refusal (mode_of keep_going) s)
-GivesText (works.Dump s keep_going) refused text = (text ≡ tables_text (mode_of keep_going) s) × (refused ≡ has_refusal (mode_of keep_going) s)
-GivesText (works.Stat s keep_going) refused text = (text ≡ stat_text (mode_of keep_going) s) × (refused ≡ has_refusal (mode_of keep_going) s)
-GivesText (works.Drill seed count threads) refused text = (text ≡ drill_text seed count) × (refused ≡ false)
-GivesText (works.Capture s plan frames threads keep_going) refused text =
-    HasTranscript s (planned_packets plan frames ∷ []) threads (mode_of keep_going) text × (refused ≡ has_refusal (mode_of keep_going) s)
-GivesText (works.Judge s file packets threads keep_going) refused text = HasJudgement s file.chains packets threads (mode_of keep_going) text × (refused ≡ has_refusal (mode_of keep_going) s)
-GivesText (works.JudgeCapture s file plan frames threads keep_going) refused text =
+-- The text of a command's work in the form of an answer, and whether it reports a refusal.
+abbrev pub GivesText : AnswerForm → Work → Bool → List ℕ → Type 0
+GivesText answer (works.Run s packets threads keep_going) refused text = HasTranscript answer s packets threads (mode_of keep_going) text × (refused ≡ has_refusal (mode_of keep_going) s)
+GivesText answer (works.List s keep_going) refused text = (text ≡ listing_text (mode_of keep_going) s) × (refused ≡ has_refusal (mode_of keep_going) s)
+GivesText answer (works.Dump s keep_going) refused text = (text ≡ tables_text (mode_of keep_going) s) × (refused ≡ has_refusal (mode_of keep_going) s)
+GivesText answer (works.Stat s keep_going) refused text = (text ≡ stat_text (mode_of keep_going) s) × (refused ≡ has_refusal (mode_of keep_going) s)
+GivesText answer (works.Drill seed count threads) refused text = (text ≡ drill_text seed count) × (refused ≡ false)
+GivesText answer (works.Capture s plan frames threads keep_going) refused text =
+    HasTranscript answer s (planned_packets plan frames ∷ []) threads (mode_of keep_going) text × (refused ≡ has_refusal (mode_of keep_going) s)
+GivesText answer (works.Judge s file packets threads keep_going) refused text = HasJudgement s file.chains packets threads (mode_of keep_going) text × (refused ≡ has_refusal (mode_of keep_going) s)
+GivesText answer (works.JudgeCapture s file plan frames threads keep_going) refused text =
     HasJudgement s file.chains (planned_packets plan frames ∷ []) threads (mode_of keep_going) text × (refused ≡ has_refusal (mode_of keep_going) s)
-GivesText (works.Desk s keep_going) refused text = IsDeskText s keep_going refused text × (length s.sections ≤ most_sections)
-GivesText (works.Get s key moment keep_going) refused text = GivesAnswer (mode_of keep_going) s (map string_bytes key.now) moment refused text
-GivesText (works.Explain s packets keep_going) refused text = Explains (mode_of keep_going) s packets refused text
-GivesText (works.Sets f whole sieved) refused text = (text ≡ sieved.text.items) × (refused ≡ list_any (λ s. leaves_out s.why) sieved.skips)
-GivesText (works.Compare a s b t keep_going) refused text = GivesComparison (mode_of keep_going) a.now s b.now t refused text
+GivesText answer (works.Desk s keep_going) refused text = IsDeskText s keep_going refused text × (length s.sections ≤ most_sections)
+GivesText answer (works.Get s key moment keep_going) refused text = GivesAnswer (mode_of keep_going) s (map string_bytes key.now) moment refused text
+GivesText answer (works.Explain s packets keep_going) refused text = Explains (mode_of keep_going) s packets refused text
+GivesText answer (works.Sets f whole sieved) refused text = (text ≡ sieved.text.items) × (refused ≡ list_any (λ s. leaves_out s.why) sieved.skips)
+GivesText answer (works.Compare a s b t keep_going) refused text = GivesComparison (mode_of keep_going) a.now s b.now t refused text
 
 -- A command's work is a `get` whose words are no key.
 abbrev pub HasBadWords : Work → ℕ → Reason → Type 0

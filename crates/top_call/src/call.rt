@@ -4,12 +4,12 @@ ghost use Rattle.std.specs.String.{string_bytes};
 ghost use Rattle.std.specs.IoError.{error_kind};
 ghost use Rattle.std.specs.Vec.Iter.{into_iter_items};
 ghost use Rattle.std.specs.declared.io.ErrorKind.TheVariants.{OutOfMemory};
-ghost use Rattle.command_words.specs.ScriptForms.{script_form, without_option};
+ghost use Rattle.command_words.specs.FormOptions.{forms_of, without_options};
 ghost use Rattle.top_call.specs.Forms.{InForm};
 ghost use Rattle.top_call.specs.Promises.{Promises};
 
 use crate::command::pipapo;
-use command_words::take_form;
+use command_words::take_forms;
 use packet_pool::Gate;
 use pip_base::{Notes, Shelf, Sink};
 use set_model::Memory;
@@ -44,8 +44,9 @@ pub fn words_behind(alloc: Global, told: io::Result<Args>) -> Result<Vec<String>
 }
 
 /// Does what the words ask for, and returns the status. With the option `--sets` among the words, the scripts of their
-/// command are rulesets: of each, what is kept is the script. If memory ran out for the words, the status is 7: no
-/// file is asked for, and nothing is written. The `gate` learns how far the run is.
+/// command are rulesets: of each, what is kept is the script. With `--elements` the line of a packet has the element that
+/// was found. If memory ran out for the words, the status is 7: no file is asked for, and nothing is written. The `gate`
+/// learns how far the run is.
 pub fn call<R: Threads + Wait + Sync, F: Shelf, K: Sink, N: Notes, G: Gate>(
     rt: &R,
     alloc: Global,
@@ -56,13 +57,13 @@ pub fn call<R: Threads + Wait + Sync, F: Shelf, K: Sink, N: Notes, G: Gate>(
     gate: &G,
 ) -> u8
     requires { F.asked shelf.old ≡ [] }
-    ensures promises { IfOk words (λ told. InForm (script_form (map string_bytes told.items)) (record { words = without_option (map string_bytes told.items); shelf = record { told = F.told shelf.old; asked = F.asked shelf.new; faults_before = F.faults shelf.old; faults_now = F.faults shelf.new; picked_before = F.is_picked shelf.old; picked_now = F.is_picked shelf.new; left = F.left shelf.new }; taken_before = K.taken sink.old; taken_now = K.taken sink.new; faults_before = K.faults sink.old; faults_now = K.faults sink.new; noted_before = N.told notes.old; noted_now = N.told notes.new; status = result }) Promises) }
+    ensures promises { IfOk words (λ told. InForm (forms_of (map string_bytes told.items)).scripts (record { words = without_options (map string_bytes told.items); answer = (forms_of (map string_bytes told.items)).answer; shelf = record { told = F.told shelf.old; asked = F.asked shelf.new; faults_before = F.faults shelf.old; faults_now = F.faults shelf.new; picked_before = F.is_picked shelf.old; picked_now = F.is_picked shelf.new; left = F.left shelf.new }; taken_before = K.taken sink.old; taken_now = K.taken sink.new; faults_before = K.faults sink.old; faults_now = K.faults sink.new; noted_before = N.told notes.old; noted_now = N.told notes.new; status = result }) Promises) }
     ensures memory { OnErr words ((result ≡ 7) × (shelf.new ≡ shelf.old) × (sink.new ≡ sink.old) × (notes.new ≡ notes.old)) }
 {
     match words {
         Ok(mut words) => {
-            let form = take_form(&mut words);
-            pipapo(rt, alloc, words.as_slice(), form, shelf, sink, notes, gate)
+            let forms = take_forms(&mut words);
+            pipapo(rt, alloc, words.as_slice(), forms, shelf, sink, notes, gate)
         }
         Err(_) => 7,
     }

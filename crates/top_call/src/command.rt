@@ -2,7 +2,7 @@ ghost use Rattle.std.specs.Prelude.{◌≡◌, ◌&&◌, [], List, ℕ, map, Opt
 ghost use Rattle.std.specs.String.{string_bytes};
 ghost use Rattle.command_words.specs.Words.{IsCommand, AsksFor};
 ghost use Rattle.command_words.specs.WordForms.{plain};
-ghost use Rattle.command_words.specs.ScriptForms as forms;
+ghost use Rattle.command_words.specs.FormOptions as options;
 ghost use Rattle.top_call.specs.Lines.{answer_fault as fault_of_answer};
 ghost use Rattle.input_files.specs.Noted.{StopsTelling};
 ghost use Rattle.input_files.specs.Reads.{HasRead};
@@ -20,7 +20,7 @@ use crate::refusals::{tell_refusals, tell_too_many};
 use crate::sets::{deliver_sets, tell_lines};
 use crate::unmet::tell_unmet;
 use crate::words_told::tell_words;
-use command_words::{Command, ScriptForm, WordsError, command_of, page_of};
+use command_words::{Command, Forms, ScriptForm, WordsError, command_of, page_of};
 use input_files::{FileFault, Rulesets, Skips, Work, work_of};
 use key_answer::AnswerError;
 use packet_pool::Gate;
@@ -64,7 +64,7 @@ fn overfull<'a>(command: Command<'a>, work: &Work<'_>) -> Option<(&'a str, u64)>
 
 /// The files of a command that are rulesets: its scripts, if they are given in that form.
 fn rulesets_of<'a>(form: ScriptForm, command: Command<'a>) -> Rulesets<'a>
-    ensures { ruleset_names result ≡ forms.rulesets_of form (plain command.entry) }
+    ensures { ruleset_names result ≡ options.rulesets_of form (plain command.entry) }
 {
     match form {
         ScriptForm::Script => Rulesets::NoFile,
@@ -74,7 +74,7 @@ fn rulesets_of<'a>(form: ScriptForm, command: Command<'a>) -> Rulesets<'a>
 
 /// The scripts of a command.
 fn scripts_of<'a>(command: Command<'a>) -> Rulesets<'a>
-    ensures { ruleset_names result ≡ forms.scripts_of (plain command.entry) }
+    ensures { ruleset_names result ≡ options.scripts_of (plain command.entry) }
 {
     match command {
         Command::Script { script, .. } => Rulesets::OneFile(script),
@@ -140,7 +140,7 @@ fn read_work<'a, F: Shelf, N: Notes>(
 fn do_command<'a, R: Threads + Wait + Sync, F: Shelf, K: Sink, N: Notes, G: Gate>(
     rt: &R,
     alloc: Global,
-    form: ScriptForm,
+    forms: Forms,
     command: Command<'a>,
     shelf: &mut F,
     sink: &mut K,
@@ -149,11 +149,11 @@ fn do_command<'a, R: Threads + Wait + Sync, F: Shelf, K: Sink, N: Notes, G: Gate
 ) -> u8
     requires nothing { F.asked shelf.old ≡ [] }
     requires is_command { (words : List (List ℕ)) × IsCommand words (plain command) }
-    ensures { (words : List (List ℕ)) → IsCommand words (plain command.entry) → InForm form (record { words = words; shelf = record { told = F.told shelf.old; asked = F.asked shelf.new; faults_before = F.faults shelf.old; faults_now = F.faults shelf.new; picked_before = F.is_picked shelf.old; picked_now = F.is_picked shelf.new; left = F.left shelf.new }; taken_before = K.taken sink.old; taken_now = K.taken sink.new; faults_before = K.faults sink.old; faults_now = K.faults sink.new; noted_before = N.told notes.old; noted_now = N.told notes.new; status = result }) Goes }
+    ensures { (words : List (List ℕ)) → IsCommand words (plain command.entry) → InForm forms.scripts (record { words = words; answer = forms.answer; shelf = record { told = F.told shelf.old; asked = F.asked shelf.new; faults_before = F.faults shelf.old; faults_now = F.faults shelf.new; picked_before = F.is_picked shelf.old; picked_now = F.is_picked shelf.new; left = F.left shelf.new }; taken_before = K.taken sink.old; taken_now = K.taken sink.new; faults_before = K.faults sink.old; faults_now = K.faults sink.new; noted_before = N.told notes.old; noted_now = N.told notes.new; status = result }) Goes }
 {
     let mut script_text = Vec::new(alloc);
     let mut skipped = Skips::new(alloc);
-    let rulesets = rulesets_of(form, command);
+    let rulesets = rulesets_of(forms.scripts, command);
     match read_work(
         alloc,
         shelf,
@@ -176,7 +176,7 @@ fn do_command<'a, R: Threads + Wait + Sync, F: Shelf, K: Sink, N: Notes, G: Gate
                     let _ = tell_too_many(alloc, notes, name, sections);
                     tell(sink, Fault::TooManyClerks(name))
                 }
-                None => match output_of(rt, alloc, work, gate) {
+                None => match output_of(rt, alloc, work, forms.answer, gate) {
                     Ok(output) => {
                         let status = deliver(
                             sink,
@@ -209,7 +209,7 @@ fn carry_out_command<R: Threads + Wait + Sync, F: Shelf, K: Sink, N: Notes, G: G
     rt: &R,
     alloc: Global,
     words: &[String],
-    form: ScriptForm,
+    forms: Forms,
     shelf: &mut F,
     sink: &mut K,
     notes: &mut N,
@@ -217,10 +217,10 @@ fn carry_out_command<R: Threads + Wait + Sync, F: Shelf, K: Sink, N: Notes, G: G
 ) -> u8
     requires nothing { F.asked shelf.old ≡ [] }
     requires no_page { (p : _) → AsksFor (map string_bytes words.now) p → ⊥ }
-    ensures { InForm form (record { words = map string_bytes words.now; shelf = record { told = F.told shelf.old; asked = F.asked shelf.new; faults_before = F.faults shelf.old; faults_now = F.faults shelf.new; picked_before = F.is_picked shelf.old; picked_now = F.is_picked shelf.new; left = F.left shelf.new }; taken_before = K.taken sink.old; taken_now = K.taken sink.new; faults_before = K.faults sink.old; faults_now = K.faults sink.new; noted_before = N.told notes.old; noted_now = N.told notes.new; status = result }) Goes }
+    ensures { InForm forms.scripts (record { words = map string_bytes words.now; answer = forms.answer; shelf = record { told = F.told shelf.old; asked = F.asked shelf.new; faults_before = F.faults shelf.old; faults_now = F.faults shelf.new; picked_before = F.is_picked shelf.old; picked_now = F.is_picked shelf.new; left = F.left shelf.new }; taken_before = K.taken sink.old; taken_now = K.taken sink.new; faults_before = K.faults sink.old; faults_now = K.faults sink.new; noted_before = N.told notes.old; noted_now = N.told notes.new; status = result }) Goes }
 {
     match command_of(alloc, words) {
-        Ok(command) => do_command(rt, alloc, form, command, shelf, sink, notes, gate),
+        Ok(command) => do_command(rt, alloc, forms, command, shelf, sink, notes, gate),
         Err(WordsError::NoCommand) => {
             let status = tell(sink, Fault::Usage);
             let _ = tell_words(alloc, notes, words);
@@ -235,18 +235,18 @@ fn carry_out<R: Threads + Wait + Sync, F: Shelf, K: Sink, N: Notes, G: Gate>(
     rt: &R,
     alloc: Global,
     words: &[String],
-    form: ScriptForm,
+    forms: Forms,
     shelf: &mut F,
     sink: &mut K,
     notes: &mut N,
     gate: &G,
 ) -> u8
     requires { F.asked shelf.old ≡ [] }
-    ensures { InForm form (record { words = map string_bytes words.now; shelf = record { told = F.told shelf.old; asked = F.asked shelf.new; faults_before = F.faults shelf.old; faults_now = F.faults shelf.new; picked_before = F.is_picked shelf.old; picked_now = F.is_picked shelf.new; left = F.left shelf.new }; taken_before = K.taken sink.old; taken_now = K.taken sink.new; faults_before = K.faults sink.old; faults_now = K.faults sink.new; noted_before = N.told notes.old; noted_now = N.told notes.new; status = result }) Goes }
+    ensures { InForm forms.scripts (record { words = map string_bytes words.now; answer = forms.answer; shelf = record { told = F.told shelf.old; asked = F.asked shelf.new; faults_before = F.faults shelf.old; faults_now = F.faults shelf.new; picked_before = F.is_picked shelf.old; picked_now = F.is_picked shelf.new; left = F.left shelf.new }; taken_before = K.taken sink.old; taken_now = K.taken sink.new; faults_before = K.faults sink.old; faults_now = K.faults sink.new; noted_before = N.told notes.old; noted_now = N.told notes.new; status = result }) Goes }
 {
     match page_of(words) {
         Some(page) => deliver_page(sink, page),
-        None => carry_out_command(rt, alloc, words, form, shelf, sink, notes, gate),
+        None => carry_out_command(rt, alloc, words, forms, shelf, sink, notes, gate),
     }
 }
 
@@ -280,8 +280,9 @@ fn carry_out<R: Threads + Wait + Sync, F: Shelf, K: Sink, N: Notes, G: Gate>(
 ///
 /// `--threads=N` means `--threads N`, and `--at=MOMENT` means `--at MOMENT`.
 ///
-/// If the form is that of rulesets, each script of these words is a ruleset. What is kept of it is the script, and `notes`
-/// first gets a note on the rest.
+/// If the form of the scripts is that of rulesets, each script of these words is a ruleset. What is kept of it is the script, and
+/// `notes` first gets a note on the rest. If the form of the answer has elements, the line of a packet in a `run` or a `capture` has
+/// the element that was found, and the line of the script that added it.
 ///
 /// Of a `judge`, `notes` then gets the lines on the tests of the rules file that no packet can meet. If memory runs out
 /// for them, the status is 7.
@@ -312,7 +313,7 @@ pub fn pipapo<R: Threads + Wait + Sync, F: Shelf, K: Sink, N: Notes, G: Gate>(
     rt: &R,
     alloc: Global,
     words: &[String],
-    form: ScriptForm,
+    forms: Forms,
     shelf: &mut F,
     sink: &mut K,
     notes: &mut N,
@@ -322,7 +323,7 @@ pub fn pipapo<R: Threads + Wait + Sync, F: Shelf, K: Sink, N: Notes, G: Gate>(
 
     // The record `Call` is what the outside shows of this call. `Promises` has the promises on it, one clause
     // each. `InForm` says what they are about if the scripts are rulesets.
-    ensures { InForm form (record { words = map string_bytes words.now; shelf = record { told = F.told shelf.old; asked = F.asked shelf.new; faults_before = F.faults shelf.old; faults_now = F.faults shelf.new; picked_before = F.is_picked shelf.old; picked_now = F.is_picked shelf.new; left = F.left shelf.new }; taken_before = K.taken sink.old; taken_now = K.taken sink.new; faults_before = K.faults sink.old; faults_now = K.faults sink.new; noted_before = N.told notes.old; noted_now = N.told notes.new; status = result }) Promises }
+    ensures { InForm forms.scripts (record { words = map string_bytes words.now; answer = forms.answer; shelf = record { told = F.told shelf.old; asked = F.asked shelf.new; faults_before = F.faults shelf.old; faults_now = F.faults shelf.new; picked_before = F.is_picked shelf.old; picked_now = F.is_picked shelf.new; left = F.left shelf.new }; taken_before = K.taken sink.old; taken_now = K.taken sink.new; faults_before = K.faults sink.old; faults_now = K.faults sink.new; noted_before = N.told notes.old; noted_now = N.told notes.new; status = result }) Promises }
 {
-    carry_out(rt, alloc, words, form, shelf, sink, notes, gate)
+    carry_out(rt, alloc, words, forms, shelf, sink, notes, gate)
 }

@@ -26,7 +26,7 @@
 //! (`pipapo_cli`) uses the system's.
 //!
 //! **Definitions:** `specs/Promises.antt` has the promises, one clause each, and `Calls.antt` what a call shows.
-//! `Transcript.antt`, `Lines.antt` and `Answers.antt` say what is written with which status. `Exactly.antt` says which
+//! `Texts.antt`, `Transcript.antt`, `Lines.antt` and `Answers.antt` say what is written with which status. `Exactly.antt` says which
 //! status comes when, `Names.antt` which files are opened, `Noted.antt` which notes are due, and `Unmet.antt` which
 //! lines on tests come first. docs/definitions.md lists what they lead to. **Theory:** docs/architecture.md, "The way of
 //! a run". **Proofs:** docs/proofs.md, "Causes and counts (`pip_base`, `input_files`, `pipapo_cli`)".

@@ -1,26 +1,30 @@
 //! A command's output, from what was read of its files.
-ghost use Rattle.std.specs.Prelude.{◌≡◌, [], ◌∷◌, All, List, ℕ, Option, Err, IfOk};
+ghost use Rattle.std.specs.Prelude.{◌≡◌, ◌<◌, ◌≤◌, [], ◌∷◌, All, List, ℕ, Option, Err, IfOk, false};
 ghost use Rattle.token_forms.specs.declared.token.Reason.{Reason};
 ghost use Rattle.token_forms.specs.declared.bad_token.BadToken.{BadToken};
 ghost use Rattle.key_answer.specs.declared.question.AnswerError.TheVariants.{BadKey};
 ghost use Rattle.set_model.specs.declared.script.SetDecl.{SetDecl as Declared};
-ghost use Rattle.set_model.specs.Runnable.{IsFitting};
+ghost use Rattle.set_model.specs.Control.{mode_of, has_refusal};
+ghost use Rattle.set_model.specs.Runnable.{IsFitting, IsRunnable};
+ghost use Rattle.script_laws.specs.Reports.{IsReportOn};
 ghost use Rattle.pcap_keys.specs.Fitting.{HasValues, IsPlanned};
 ghost use Rattle.pcap_keys.specs.Planned as planned;
 ghost use Rattle.input_files.specs.Works.{IsDoable};
 ghost use Rattle.top_call.specs.Refused.{GivesRefusals};
-ghost use Rattle.top_call.specs.Transcript.{GivesText, HasBadWords, HasFewClerks, MakesOutput};
+ghost use Rattle.top_call.specs.Transcript.{GivesText, HasBadWords, HasFewClerks, HasTranscript, MakesOutput};
 
+use command_words::AnswerForm;
 use compare_answer::{Side, compare_scripts};
 use control_desk::QuietBell;
 use desk_run::desk;
+use element_lines::transcript_with_elements;
 use explain_answer::explain;
 use input_files::Work;
 use key_answer::{AnswerError, get};
 use packet_pool::Gate;
 use pcap_keys::{Frames, Plan, keys_of};
 use script_run::{Output, drill, dump, judged, listing, transcript};
-use set_model::{Keys, Memory};
+use set_model::{Keys, Memory, Script};
 use stat_answer::stat;
 use std::alloc::Global;
 use std::sync::Wait;
@@ -37,7 +41,33 @@ fn captured(alloc: Global, plan: &Plan, frames: &Frames) -> Result<Keys, Memory>
     Ok(keys)
 }
 
-/// The output of a command's work. The `gate` learns of each section, step, lookup and commit.
+/// The output of a run of a script beside packets that are looked up, in the form of an answer.
+fn run_output<R: Threads + Sync, G: Gate>(
+    rt: &R,
+    alloc: Global,
+    script: Script,
+    keys: &Keys,
+    keep_going: bool,
+    threads: u32,
+    answer: AnswerForm,
+    gate: &G,
+) -> Result<Output, Memory>
+    requires script { IsRunnable script }
+    requires keys { All (All (IsFitting script.schema)) keys.now }
+    requires threads { (0 < threads) × (threads ≤ 16) }
+    ensures text { IfOk result (λ out. HasTranscript answer script keys.now threads (mode_of keep_going) out.text.items) }
+    ensures refused { IfOk result (λ out. out.refused ≡ has_refusal (mode_of keep_going) script) }
+    ensures report { IfOk result (IsReportOn (mode_of keep_going) script) }
+    ensures failed { IfOk result (λ out. out.failed ≡ false) }
+{
+    if answer.has_elements {
+        transcript_with_elements(rt, alloc, script, keys, keep_going, threads, gate)
+    } else {
+        transcript(rt, alloc, script, keys, keep_going, threads, gate)
+    }
+}
+
+/// The output of a command's work, in the form of an answer. The `gate` learns of each section, step, lookup and commit.
 ///
 /// # Errors
 ///
@@ -46,12 +76,13 @@ pub fn output_of<R: Threads + Wait + Sync, G: Gate>(
     rt: &R,
     alloc: Global,
     work: Work<'_>,
+    answer: AnswerForm,
     gate: &G,
 ) -> Result<Output, AnswerError>
     requires doable { IsDoable work }
     requires clerks { HasFewClerks work }
     requires makes { MakesOutput work }
-    ensures text { IfOk result (λ out. GivesText work.entry out.refused out.text.items) }
+    ensures text { IfOk result (λ out. GivesText answer work.entry out.refused out.text.items) }
     ensures refusals { IfOk result (GivesRefusals work.entry) }
     ensures bad { (line : ℕ) (reason : Reason) (bad : Option BadToken) (schema : List Declared) → result ≡ Err (BadKey line reason bad schema) → HasBadWords work.entry line reason }
 {
@@ -61,7 +92,9 @@ pub fn output_of<R: Threads + Wait + Sync, G: Gate>(
             keys,
             threads,
             keep_going,
-        } => Ok(transcript(rt, alloc, script, &keys, keep_going, threads, gate)?),
+        } => Ok(run_output(
+            rt, alloc, script, &keys, keep_going, threads, answer, gate,
+        )?),
         Work::List { script, keep_going } => Ok(listing(alloc, script, keep_going, gate)?),
         Work::Dump { script, keep_going } => Ok(dump(alloc, script, keep_going, gate)?),
         Work::Stat { script, keep_going } => Ok(stat(alloc, script, keep_going, gate)?),
@@ -78,7 +111,9 @@ pub fn output_of<R: Threads + Wait + Sync, G: Gate>(
             keep_going,
         } => {
             let keys = captured(alloc, &plan, &frames)?;
-            Ok(transcript(rt, alloc, script, &keys, keep_going, threads, gate)?)
+            Ok(run_output(
+                rt, alloc, script, &keys, keep_going, threads, answer, gate,
+            )?)
         }
         Work::Judge {
             script,

@@ -56,7 +56,18 @@ pub(crate) fn may_name(verb: Verb, place: usize) -> bool {
 }
 
 /// The options of all commands.
-pub(crate) const OPTIONS: [&[u8]; 4] = [b"--threads", b"--keep-going", b"--sets", b"--at"];
+pub(crate) const OPTIONS: [&[u8]; 5] = [
+    b"--threads",
+    b"--keep-going",
+    b"--sets",
+    b"--elements",
+    b"--at",
+];
+
+/// Whether an option says in which form scripts are given or the answer is written.
+pub(crate) fn is_of_form(option: &str) -> bool {
+    matches!(option, "--sets" | "--elements")
+}
 
 /// Whether an option takes a value.
 pub(crate) fn has_value(option: &[u8]) -> bool {

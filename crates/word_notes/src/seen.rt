@@ -1,6 +1,6 @@
 //! What was seen of a command's words so far.
 use crate::fault::{NumberOf, WordFault};
-use crate::form::{may_name, name_at, takes};
+use crate::form::{is_of_form, may_name, name_at, takes};
 use command_words::Verb;
 
 /// What was seen after a command's word.
@@ -66,7 +66,7 @@ impl Seen {
         Err(WordFault::BadNumber(number, word))
     }
 
-    /// After an option that the command takes. The first `--sets` was taken out of the words.
+    /// After an option that the command takes. The first option of each form was taken out of the words.
     fn with_taken<'a>(
         self,
         option: &'a str,
@@ -74,7 +74,7 @@ impl Seen {
     ) -> Result<Seen, WordFault<'a>> {
         let is_again = match counted_by(option) {
             Some(_) => self.has_number,
-            None if option == "--sets" => value.is_none(),
+            None if is_of_form(option) => value.is_none(),
             None => self.has_mark,
         };
         if is_again {

@@ -7,5 +7,5 @@ use Rattle.top_call.proofs.command.carry_out.Goals as goal
 
 pub returns-in-Some : goal.returns-in-Some
 returns-in-Some g c =
-    in-no-command c.args.form _ (λ d is_d. page-no-command (map string_bytes c.args.words.now) c.in-Some.page d c.in-Some.ensures.found is_d) c.requires
+    in-no-command c.args.forms.scripts _ (λ d is_d. page-no-command (map string_bytes c.args.words.now) c.in-Some.page d c.in-Some.ensures.found is_d) c.requires
     (goes-page _ c.in-Some.page c.in-Some.ensures.found c.requires refl refl c.deliver_page.ensures)
