@@ -1,0 +1,5 @@
+mod FloatLaws
+mod MemberLaws
+mod PushLaws
+mod TableLaws
+mod Worked
