@@ -733,7 +733,7 @@ PLAN_MISTAKES = [
 NO_PACKET = "key:1:1: the words name no packet\nhelp: write [FAMILY] TABLE SET VALUE . VALUE ..; a moment in milliseconds comes before the script, as: --at 500\n"
 
 RUN = "usage: pipapo run SCRIPT KEYS [--threads N] [--keep-going] [--sets] [--elements]"
-LIST = "usage: pipapo list SCRIPT [--keep-going] [--sets]"
+LIST = "usage: pipapo list SCRIPT [--keep-going] [--sets] [--json]"
 JUDGE = "usage: pipapo judge SCRIPT RULES KEYS [--threads N] [--keep-going] [--sets]"
 CAPTURE = "usage: pipapo capture SCRIPT PLAN PCAP [--threads N] [--keep-going] [--sets] [--elements]"
 DRILL = "usage: pipapo drill SEED COUNT [--threads N]"
@@ -853,6 +853,8 @@ WORD_MISTAKES = [
     ("list a --threads 4", "'--threads' isn't an option of this command", LIST),
     ("get --threads 4 a t", "'--threads' isn't an option of this command", GET),
     ("list a --elements", "'--elements' isn't an option of this command", LIST),
+    ("run a b --json", "'--json' isn't an option of this command", RUN),
+    ("list a --json --json", "'--json' is given twice", TWICE),
 ]
 
 

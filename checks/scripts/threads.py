@@ -12,6 +12,7 @@ import collections
 import concurrent.futures
 import os
 import random
+import re
 import subprocess
 import sys
 import tempfile
@@ -294,6 +295,16 @@ def self_test():
 EXAMPLES = os.path.join(os.path.dirname(os.path.abspath(__file__)), "..", "..", "examples")
 
 
+# what `--elements` prints after an element's id: its addition, and the addition's line
+ADDITION = re.compile(r"( element \d+) \{ (.*) \} line (\d+)$", re.M)
+
+
+def without_additions(script, transcript):
+    """A transcript as it is without `--elements`. An addition that isn't in the script's line stays, so its line is refused."""
+    lines = script.split("\n")
+    return ADDITION.sub(lambda found: found[1] if found[2] in lines[int(found[3]) - 1] else found[0], transcript)
+
+
 def judge_example(folder, text):
     """Whether a transcript with the line of its status behind it is legal for an example that is a run."""
     def read(name):
@@ -304,6 +315,8 @@ def judge_example(folder, text):
     threads = int(words.pop(words.index("--threads") + 1)) if "--threads" in words else 1
     files = [word for word in words[1:] if not word.startswith("-")]
     transcript, status = text.rstrip("\n").rsplit("status ", 1)
+    if "--elements" in words:
+        transcript = without_additions(read(files[0]), transcript)
     return broken_rules(read(files[0]), read(files[1]), threads, "--keep-going" in words, transcript, int(status))
 
 

@@ -18,7 +18,8 @@ _pipapo() {
         case $command in
         run | capture) mapfile -t COMPREPLY < <(compgen -W "--threads --keep-going --sets --elements --help" -- "$word") ;;
         judge) mapfile -t COMPREPLY < <(compgen -W "--threads --keep-going --sets --help" -- "$word") ;;
-        list | dump | desk | explain | compare | stat) mapfile -t COMPREPLY < <(compgen -W "--keep-going --sets --help" -- "$word") ;;
+        list) mapfile -t COMPREPLY < <(compgen -W "--keep-going --sets --json --help" -- "$word") ;;
+        dump | desk | explain | compare | stat) mapfile -t COMPREPLY < <(compgen -W "--keep-going --sets --help" -- "$word") ;;
         get) mapfile -t COMPREPLY < <(compgen -W "--at --keep-going --sets --help" -- "$word") ;;
         sets) mapfile -t COMPREPLY < <(compgen -W "--help" -- "$word") ;;
         drill) mapfile -t COMPREPLY < <(compgen -W "--threads --help" -- "$word") ;;

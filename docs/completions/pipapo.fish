@@ -21,4 +21,5 @@ complete -c pipapo -n "__fish_seen_subcommand_from run drill judge capture" -l t
 complete -c pipapo -n "__fish_seen_subcommand_from run list dump judge capture desk get explain compare stat" -l keep-going -d 'skip refused changes'
 complete -c pipapo -n "__fish_seen_subcommand_from run list dump judge capture desk get explain compare stat" -l sets -d 'read the sets of rulesets'
 complete -c pipapo -n "__fish_seen_subcommand_from run capture" -l elements -d 'print the elements that packets find'
+complete -c pipapo -n "__fish_seen_subcommand_from list" -l json -d 'print JSON'
 complete -c pipapo -n "__fish_seen_subcommand_from get" -l at -x -d 'the moment in milliseconds'

@@ -20,6 +20,8 @@ mod elements;
 #[cfg(test)]
 mod faults;
 #[cfg(test)]
+mod json;
+#[cfg(test)]
 mod listings;
 #[cfg(test)]
 mod notes;

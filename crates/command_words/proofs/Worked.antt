@@ -48,7 +48,7 @@ no-sets-of-version : without_option Sets (codes "--version" ∷ codes "--sets" �
 no-sets-of-version = refl
 
 -- `run --elements r --sets k` is `run r k` of a ruleset, and its answer has the elements.
-both-of-run : forms_of (codes "run" ∷ codes "--elements" ∷ codes "r" ∷ codes "--sets" ∷ codes "k" ∷ []) ≡ record { scripts = Ruleset; answer = record { has_elements = true } }
+both-of-run : forms_of (codes "run" ∷ codes "--elements" ∷ codes "r" ∷ codes "--sets" ∷ codes "k" ∷ []) ≡ record { scripts = Ruleset; answer = record { has_elements = true; is_json = false } }
 both-of-run = refl
 
 words-of-run : without_options (codes "run" ∷ codes "--elements" ∷ codes "r" ∷ codes "--sets" ∷ codes "k" ∷ []) ≡ codes "run" ∷ codes "r" ∷ codes "k" ∷ []
@@ -57,6 +57,13 @@ words-of-run = refl
 -- A listing has no lines of packets: `list r --elements` keeps its words, and is no command.
 no-elements-of-list : without_options (codes "list" ∷ codes "r" ∷ codes "--elements" ∷ []) ≡ codes "list" ∷ codes "r" ∷ codes "--elements" ∷ []
 no-elements-of-list = refl
+
+-- `list --json r` is `list r`, and its answer is JSON.
+json-of-list : forms_of (codes "list" ∷ codes "--json" ∷ codes "r" ∷ []) ≡ record { scripts = Script; answer = record { has_elements = false; is_json = true } }
+json-of-list = refl
+
+words-of-list : without_options (codes "list" ∷ codes "--json" ∷ codes "r" ∷ []) ≡ codes "list" ∷ codes "r" ∷ []
+words-of-list = refl
 
 -- A second `--elements` stays in the words.
 elements-twice : without_options (codes "run" ∷ codes "--elements" ∷ codes "--elements" ∷ []) ≡ codes "run" ∷ codes "--elements" ∷ []

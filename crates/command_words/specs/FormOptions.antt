@@ -1,5 +1,5 @@
--- The options of forms: `--sets` says in which form a command's scripts are given, and `--elements` in which form its answer is
--- written. They are no part of a command, and are taken out of its words.
+-- The options of forms: `--sets` says in which form a command's scripts are given, and `--elements` and `--json` in which form its
+-- answer is written. They are no part of a command, and are taken out of its words.
 use Rattle.std.specs.Prelude.{ℕ, suc, Bool, true, false, ◌&&◌, ◌||◌, not, if◌then◌else◌, List, [], ◌∷◌, codes, bytes_eq, Option, Some, None, option_map}
 use Rattle.std.specs.List.{remove}
 use Rattle.std.specs.Option.{is_some}
@@ -16,6 +16,7 @@ use Rattle.command_words.specs.declared.form.ScriptForm.TheVariants as forms
 abbrev pub option_word : FormOption → List ℕ
 option_word options.Sets = codes "--sets"
 option_word options.Elements = codes "--elements"
+option_word options.Json = codes "--json"
 
 -- A first word asks for a page.
 abbrev pub is_page_word : List ℕ → Bool
@@ -29,10 +30,16 @@ has_scripts word = not (bytes_eq word (codes "drill") || bytes_eq word (codes "s
 abbrev pub has_lookups : List ℕ → Bool
 has_lookups word = bytes_eq word (codes "run") || bytes_eq word (codes "capture")
 
--- A command with this word takes an option: `--sets` if it has scripts, and `--elements` if it looks packets up.
+-- A command with this word can write its answer as JSON.
+abbrev pub has_json : List ℕ → Bool
+has_json word = bytes_eq word (codes "list")
+
+-- A command with this word takes an option: `--sets` if it has scripts, `--elements` if it looks packets up, and `--json` if it can
+-- write JSON.
 abbrev pub takes : FormOption → List ℕ → Bool
 takes options.Sets word = has_scripts word
 takes options.Elements word = has_lookups word
+takes options.Json word = has_json word
 
 -- The word after this one is its value.
 abbrev pub has_value : List ℕ → Bool
@@ -50,7 +57,6 @@ place_among o is_value (word ∷ words) =
 abbrev pub option_place : FormOption → List (List ℕ) → Option ℕ
 option_place o [] = None
 option_place o (first ∷ words) = if takes o first then option_map suc (place_among o false words) else None
-
 
 -- the words have an option
 abbrev pub has_option : FormOption → List (List ℕ) → Bool
@@ -74,7 +80,7 @@ script_form words = form_by (has_option options.Sets words)
 
 -- The form of the answer, by the words without `--sets`.
 abbrev pub answer_form : List (List ℕ) → AnswerForm
-answer_form words = record { has_elements = has_option options.Elements words }
+answer_form words = record { has_elements = has_option options.Elements words; is_json = has_option options.Json (without_option options.Elements words) }
 
 -- the forms that the words ask for
 abbrev pub forms_of : List (List ℕ) → Forms
@@ -82,7 +88,7 @@ forms_of words = record { scripts = script_form words; answer = answer_form (wit
 
 -- the words without the options of forms
 abbrev pub without_options : List (List ℕ) → List (List ℕ)
-without_options words = without_option options.Elements (without_option options.Sets words)
+without_options words = without_option options.Json (without_option options.Elements (without_option options.Sets words))
 
 -- the names of a command's scripts
 abbrev pub scripts_of : Command → List (List ℕ)

@@ -10,6 +10,8 @@ pub enum FormOption {
     Sets,
     /// `--elements`: the line of a packet has the element that was found.
     Elements,
+    /// `--json`: the answer is JSON.
+    Json,
 }
 
 /// In which form the scripts of a command are given.
@@ -26,6 +28,8 @@ pub enum ScriptForm {
 pub struct AnswerForm {
     /// Whether the line of a packet has the element that was found, and the line of the script that added it.
     pub has_elements: bool,
+    /// Whether the answer is JSON.
+    pub is_json: bool,
 }
 
 /// The forms that the words of a command ask for.
@@ -58,6 +62,13 @@ fn has_lookups(word: &str) -> bool
     word == "run" || word == "capture"
 }
 
+/// Whether a command with this word can write its answer as JSON.
+fn has_json(word: &str) -> bool
+    ensures { result ≡ forms.has_json word.now }
+{
+    word == "list"
+}
+
 impl FormOption {
     /// Whether a word is the option.
     fn is_word(self, word: &str) -> bool
@@ -66,6 +77,7 @@ impl FormOption {
         match self {
             FormOption::Sets => word == "--sets",
             FormOption::Elements => word == "--elements",
+            FormOption::Json => word == "--json",
         }
     }
 
@@ -76,6 +88,7 @@ impl FormOption {
         match self {
             FormOption::Sets => has_scripts(word),
             FormOption::Elements => has_lookups(word),
+            FormOption::Json => has_json(word),
         }
     }
 }
@@ -145,16 +158,20 @@ fn form_by(has_rulesets: bool) -> ScriptForm
     }
 }
 
-/// Takes the options `--sets` and `--elements` out of words, if they have them, and returns the forms of the command's
-/// scripts and of its answer. It takes no memory.
+/// Takes the options `--sets`, `--elements` and `--json` out of words, if they have them, and returns the forms of the
+/// command's scripts and of its answer. It takes no memory.
 pub fn take_forms(words: &mut Vec<String>) -> Forms
     ensures forms { result ≡ forms.forms_of (map string_bytes words.old.items) }
     ensures words { map string_bytes words.new.items ≡ forms.without_options (map string_bytes words.old.items) }
 {
     let has_rulesets = take_option(FormOption::Sets, words);
     let has_elements = take_option(FormOption::Elements, words);
+    let is_json = take_option(FormOption::Json, words);
     Forms {
         scripts: form_by(has_rulesets),
-        answer: AnswerForm { has_elements },
+        answer: AnswerForm {
+            has_elements,
+            is_json,
+        },
     }
 }

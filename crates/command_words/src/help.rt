@@ -8,7 +8,7 @@ pub const PROGRAM: &str = "\
 pipapo runs nftables set scripts and looks packets up in the sets.
 
 usage: pipapo run SCRIPT KEYS [--threads N] [--keep-going] [--sets] [--elements]
-       pipapo list SCRIPT [--keep-going] [--sets]
+       pipapo list SCRIPT [--keep-going] [--sets] [--json]
        pipapo dump SCRIPT [--keep-going] [--sets]
        pipapo drill SEED COUNT [--threads N]
        pipapo judge SCRIPT RULES KEYS [--threads N] [--keep-going] [--sets]
@@ -50,6 +50,7 @@ options, in any order among the names:
   --keep-going   a refused change is skipped, and doesn't fail its transaction
   --sets         each script is a ruleset: its sets are read, and the rest is named
   --elements     a packet's line in a run or a capture has the element that was found
+  --json         list writes the sets as JSON, which nft -j -f loads
   --at MOMENT    the moment of a get, in milliseconds; the options of get come before SCRIPT
 A value may also follow its option in one word, as --threads=4.
 
@@ -110,7 +111,7 @@ statuses: 0 done, 1 done with a refused change, 3 SCRIPT isn't in its grammar, 4
 
 /// The page of `list`.
 pub const LIST: &str = "\
-usage: pipapo list SCRIPT [--keep-going] [--sets]
+usage: pipapo list SCRIPT [--keep-going] [--sets] [--json]
 
 Runs SCRIPT, and writes what became of its transactions as comments, and then the sets of the
 last generation as a script. SCRIPT may be -, the standard input.
@@ -118,6 +119,7 @@ last generation as a script. SCRIPT may be -, the standard input.
 options, before or after the name:
   --keep-going   a refused change is skipped, and doesn't fail its transaction
   --sets         each script is a ruleset: its sets are read, and the rest is named
+  --json         the sets are written as JSON, which nft -j -f loads, and no comments
 
 statuses: 0 done, 1 done with a refused change, 3 SCRIPT isn't in its grammar, 5 it can't be
 read, 6 the standard output failed, 7 out of memory, 8 SCRIPT is too large

@@ -13,13 +13,14 @@
 //!     run --sets rules.nft packets.keys         a run, whose script is what is kept of a ruleset
 //!     run allow.nft packets.keys --elements     a run, whose lines have the elements that packets find
 //!     list allow.nft --elements                 no command: a listing has no lines of packets
+//!     list allow.nft --json                     a listing as JSON
 //!     help run                                  the page of help on `run`
 //!     -V                                        the page of the version
 //!
 //! The first word is the command. Names and options follow in any order. The options of `get` come
 //! before the script, since all words after it are the key. [`command_of`] returns the
-//! command that the words are, or says that they are none. Before that, [`take_forms`] takes out the options `--sets` and
-//! `--elements`, which say in which form scripts are given and the answer is written. [`page_of`] returns the page of help that
+//! command that the words are, or says that they are none. Before that, [`take_forms`] takes out the options `--sets`,
+//! `--elements` and `--json`, which say in which form scripts are given and the answer is written. [`page_of`] returns the page of help that
 //! they ask for, and [`Page::text`] its text. To refuse words takes no memory.
 //!
 //! **Definitions:** `specs/Words.antt` says which words are a command and which ask for help.

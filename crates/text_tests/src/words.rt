@@ -351,9 +351,9 @@ const PAGES: &[u8] = b"\
     help run|usage: pipapo run SCRIPT KEYS [--threads N] [--keep-going] [--sets] [--elements]~\
     run --help|usage: pipapo run SCRIPT KEYS [--threads N] [--keep-going] [--sets] [--elements]~\
     run -h|usage: pipapo run SCRIPT KEYS [--threads N] [--keep-going] [--sets] [--elements]~\
-    help list|usage: pipapo list SCRIPT [--keep-going] [--sets]~\
-    list --help|usage: pipapo list SCRIPT [--keep-going] [--sets]~\
-    list -h|usage: pipapo list SCRIPT [--keep-going] [--sets]~\
+    help list|usage: pipapo list SCRIPT [--keep-going] [--sets] [--json]~\
+    list --help|usage: pipapo list SCRIPT [--keep-going] [--sets] [--json]~\
+    list -h|usage: pipapo list SCRIPT [--keep-going] [--sets] [--json]~\
     help dump|usage: pipapo dump SCRIPT [--keep-going] [--sets]~\
     dump --help|usage: pipapo dump SCRIPT [--keep-going] [--sets]~\
     dump -h|usage: pipapo dump SCRIPT [--keep-going] [--sets]~\

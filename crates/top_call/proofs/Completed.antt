@@ -26,7 +26,7 @@ use Rattle.key_answer.specs.Answer.{GivesAnswer, get_text, has_no_answer}
 use Rattle.compare_answer.specs.Compared.{GivesComparison}
 use Rattle.explain_answer.specs.Explained.{Explains}
 use Rattle.key_answer.specs.Question.{IsKey, IsBadKey, key_text, at_moment}
-use Rattle.script_run.specs.Listings.{listing_text, tables_text}
+use Rattle.script_run.specs.Listings.{tables_text}
 use Rattle.stat_answer.specs.StatText.{stat_text}
 use Rattle.desk_run.specs.DeskText.{IsDeskText}
 use Rattle.command_words.specs.declared.form.AnswerForm.{AnswerForm}
@@ -43,7 +43,7 @@ use Rattle.input_files.proofs.Turns.{given-one, given-front, given-refuses}
 use Rattle.top_call.specs.declared.fault.Fault.{Fault}
 use Rattle.top_call.specs.declared.fault.Fault.TheVariants.{Usage, File, TooManyClerks, BadKey, Memory}
 use Rattle.top_call.specs.Transcript.{IsTranscript, IsJudgement, IsJudgedCapture, AreRulesOf, IsCaptured, IsTextOf, IsWovenOf, most_sections, IsAnswerOf, IsExplanationOf, IsComparisonOf, AreSetsIn}
-use Rattle.top_call.specs.Texts.{run_output}
+use Rattle.top_call.specs.Texts.{listing_output, run_output}
 use Rattle.top_call.specs.Calls.{Call, IsQuiet}
 use Rattle.top_call.specs.Causes.{IsCause, no_command, of_file, too_many, bad_key, no_memory}
 use Rattle.top_call.specs.Lines.{done_status, form_status, file_status, file_line, status_of, fault_line}
@@ -489,8 +489,8 @@ module _ (c : Call) (ends : EndsDuly c) (quiet : IsQuiet c) where
         (λ w. same-judged-capture n (mode_of g) script rules plan packets s r taken hs hr hc w (does c.answer c.words c.shelf (judge_capture script rules plan packets n g) w.refused w.text is_judge w.has hs.text hr.text hc.plan.text hc.capture.text hs.is_told hr.is_told hc.plan.is_told hc.capture.is_told))
         (ended (judge_capture script rules plan packets n g) s.schema is_judge (given-script c.shelf.told script s hs, (given-rules c.shelf.told rules s r hr, (given-plan c.shelf.told plan packets s taken hc, (given-capture c.shelf.told plan packets s taken hc, tt)))) (λ name k t e. absurd (cc e)) (λ name key m k t l r e. absurd (cc e)));
     list = λ script g s is_list hs.
-        or-ran-out (DeliversText (mode_of g) s (listing_text (mode_of g) s) c)
-        (λ w. same-script listing_text (mode_of g) script s hs w (does c.answer c.words c.shelf (list script g) w.refused w.text is_list w.has hs.text hs.is_told))
+        or-ran-out (DeliversText (mode_of g) s (listing_output c.answer (mode_of g) s) c)
+        (λ w. same-script (listing_output c.answer) (mode_of g) script s hs w (does c.answer c.words c.shelf (list script g) w.refused w.text is_list w.has hs.text hs.is_told))
         (ended (list script g) s.schema is_list (given-script c.shelf.told script s hs, tt) (λ name k t e. absurd (cc e)) (λ name key m k t l r e. absurd (cc e)));
     dump = λ script g s is_dump hs.
         or-ran-out (DeliversText (mode_of g) s (tables_text (mode_of g) s) c)

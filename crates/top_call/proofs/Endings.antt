@@ -141,7 +141,7 @@ module _ (c : Call) where
   pub lists : EndsDuly c → IsComplete c.status → Lists c
   lists ends e script script_text keep_going is_list at =
       let w = of-command ends e (list script keep_going) is_list in
-      writes (IsListing script_text (mode_of keep_going)) w (does c.answer c.words c.shelf (list script keep_going) w.refused w.text is_list w.has script_text at)
+      writes (IsListing c.answer script_text (mode_of keep_going)) w (does c.answer c.words c.shelf (list script keep_going) w.refused w.text is_list w.has script_text at)
 
   pub dumps : EndsDuly c → IsComplete c.status → Dumps c
   dumps ends e script script_text keep_going is_dump at =

@@ -90,9 +90,10 @@ JudgesCaptures c =
     → c.shelf.told script ≡ Some script_text → c.shelf.told rules ≡ Some rules_text → c.shelf.told plan ≡ Some plan_text → c.shelf.told packets ≡ Some capture_text
     → Writes (IsJudgedCapture script_text rules_text plan_text capture_text threads (mode_of keep_going)) c
 
--- The same of a listing: the sink took what the script's control reported, and then the listing of the script.
+-- The same of a listing: the sink took what the script's control reported, and then the listing of the script; or the listing as
+-- JSON, if the words ask for it.
 abbrev pub Lists : Call → Type 0
-Lists c = (script script_text : List ℕ) (keep_going : Bool) → IsListCommand c.words script keep_going → c.shelf.told script ≡ Some script_text → Writes (IsListing script_text (mode_of keep_going)) c
+Lists c = (script script_text : List ℕ) (keep_going : Bool) → IsListCommand c.words script keep_going → c.shelf.told script ≡ Some script_text → Writes (IsListing c.answer script_text (mode_of keep_going)) c
 
 -- The same of a dump: the sink took what the script's control reported, and then the tables of the script's sets.
 abbrev pub Dumps : Call → Type 0

@@ -21,7 +21,7 @@ use Rattle.pcap_keys.specs.declared.selector.PlanLine.{PlanLine}
 use Rattle.pcap_keys.specs.CapturedPackets.{IsCapture}
 use Rattle.pcap_keys.specs.Planned.{packets as planned_packets}
 use Rattle.pcap_keys.specs.PlansText.{IsPlanText}
-use Rattle.script_run.specs.Listings.{listing_text, tables_text}
+use Rattle.script_run.specs.Listings.{tables_text}
 use Rattle.stat_answer.specs.StatText.{stat_text}
 use Rattle.script_run.specs.Drill.{drill_text}
 use Rattle.desk_run.specs.DeskText.{IsDeskText}
@@ -37,7 +37,7 @@ use Rattle.input_files.specs.Given.{Has, AreGiven}
 use Rattle.top_call.specs.Transcript.{AreRulesOf, most_sections, leaves_any}
 use Rattle.top_call.specs.Calls.{Call}
 use Rattle.top_call.specs.Lines.{done_status, form_status}
-use Rattle.top_call.specs.Texts.{run_output}
+use Rattle.top_call.specs.Texts.{listing_output, run_output}
 use Rattle.top_call.specs.Answers.{Delivers, TellsPage}
 
 -- A file's bytes, within their size, are read as this script.
@@ -180,7 +180,7 @@ pub record Completes (c : Call) : Type 0 where
       → HasCaptured c.shelf.told plan packets s taken → DeliversRun threads (mode_of keep_going) s (taken ∷ []) c ⊎ RanOut c
   pub judge_capture : (script rules plan packets : List ℕ) (threads : ℕ) (keep_going : Bool) (s : Script) (r : Rules) (taken : List Packet) → IsJudgeCaptureCommand c.words script rules plan packets threads keep_going → HasScript c.shelf.told script s
       → HasRules c.shelf.told rules s r → HasCaptured c.shelf.told plan packets s taken → DeliversJudgement threads (mode_of keep_going) s r (taken ∷ []) c ⊎ RanOut c
-  pub list : (script : List ℕ) (keep_going : Bool) (s : Script) → IsListCommand c.words script keep_going → HasScript c.shelf.told script s → DeliversText (mode_of keep_going) s (listing_text (mode_of keep_going) s) c ⊎ RanOut c
+  pub list : (script : List ℕ) (keep_going : Bool) (s : Script) → IsListCommand c.words script keep_going → HasScript c.shelf.told script s → DeliversText (mode_of keep_going) s (listing_output c.answer (mode_of keep_going) s) c ⊎ RanOut c
   pub dump : (script : List ℕ) (keep_going : Bool) (s : Script) → IsDumpCommand c.words script keep_going → HasScript c.shelf.told script s → DeliversText (mode_of keep_going) s (tables_text (mode_of keep_going) s) c ⊎ RanOut c
   pub stat : (script : List ℕ) (keep_going : Bool) (s : Script) → IsStatCommand c.words script keep_going → HasScript c.shelf.told script s → DeliversText (mode_of keep_going) s (stat_text (mode_of keep_going) s) c ⊎ RanOut c
   pub desk : (script : List ℕ) (keep_going : Bool) (s : Script) → IsDeskCommand c.words script keep_going → HasScript c.shelf.told script s → length s.sections ≤ most_sections → DeliversDesk s keep_going c ⊎ RanOut c

@@ -50,7 +50,7 @@ status_of (BadKey line reason) = 13
 status_of Memory = 7
 
 abbrev pub usage_line : List ℕ
-usage_line = codes "pipapo: usage: run SCRIPT KEYS [--threads N] [--keep-going] [--sets] [--elements] | list SCRIPT [--keep-going] [--sets] | dump SCRIPT [--keep-going] [--sets] | drill SEED COUNT [--threads N] | judge SCRIPT RULES KEYS [--threads N] [--keep-going] [--sets] | judge SCRIPT RULES PLAN PCAP [--threads N] [--keep-going] [--sets] | capture SCRIPT PLAN PCAP [--threads N] [--keep-going] [--sets] [--elements] | desk SCRIPT [--keep-going] [--sets] | get [--at MOMENT] [--keep-going] [--sets] SCRIPT [FAMILY] TABLE SET VALUE . VALUE .. | explain SCRIPT KEYS [--keep-going] [--sets] | compare SCRIPT1 SCRIPT2 [--keep-going] [--sets] | stat SCRIPT [--keep-going] [--sets] | sets RULESET\n"
+usage_line = codes "pipapo: usage: run SCRIPT KEYS [--threads N] [--keep-going] [--sets] [--elements] | list SCRIPT [--keep-going] [--sets] [--json] | dump SCRIPT [--keep-going] [--sets] | drill SEED COUNT [--threads N] | judge SCRIPT RULES KEYS [--threads N] [--keep-going] [--sets] | judge SCRIPT RULES PLAN PCAP [--threads N] [--keep-going] [--sets] | capture SCRIPT PLAN PCAP [--threads N] [--keep-going] [--sets] [--elements] | desk SCRIPT [--keep-going] [--sets] | get [--at MOMENT] [--keep-going] [--sets] SCRIPT [FAMILY] TABLE SET VALUE . VALUE .. | explain SCRIPT KEYS [--keep-going] [--sets] | compare SCRIPT1 SCRIPT2 [--keep-going] [--sets] | stat SCRIPT [--keep-going] [--sets] | sets RULESET\n"
 
 -- a line that ends with a name
 abbrev pub named_line : List ℕ → List ℕ → List ℕ

@@ -24,7 +24,7 @@ use Rattle.ruleset_sets.specs.RulesetText.{leaves_out}
 use Rattle.key_file.specs.KeysText.{IsKeysText}
 use Rattle.pcap_keys.specs.Planned.{packets as planned_packets}
 use Rattle.pcap_keys.specs.CapturedPackets.{AreCaptured}
-use Rattle.script_run.specs.Listings.{listing_text, tables_text}
+use Rattle.script_run.specs.Listings.{tables_text}
 use Rattle.stat_answer.specs.StatText.{stat_text}
 use Rattle.script_run.specs.Drill.{drill_text}
 use Rattle.desk_run.specs.DeskText.{IsDeskText}
@@ -32,7 +32,7 @@ use Rattle.command_words.specs.declared.form.AnswerForm.{AnswerForm}
 use Rattle.command_words.specs.Words.{Command, run, list, dump, drill, judge, capture, desk, get, explain, compare, stat, judge_capture, sets_of}
 use Rattle.input_files.specs.declared.work.Work.{Work}
 use Rattle.input_files.specs.declared.work.Work.TheVariants as works
-use Rattle.top_call.specs.Texts.{run_output}
+use Rattle.top_call.specs.Texts.{listing_output, run_output}
 
 -- A text is read as these rules over the sets of a script.
 pub record AreRulesOf (script : Script) (text : List ℕ) (rules : Rules) : Type 0 where
@@ -99,8 +99,8 @@ pub record IsTextOf (text : Mode → Script → List ℕ) (script_text : List �
   pub refusal : refused ≡ has_refusal mode script
 
 -- the listing of the last generation, and its tables
-abbrev pub IsListing : List ℕ → Mode → Bool → List ℕ → Type 0
-IsListing = IsTextOf listing_text
+abbrev pub IsListing : AnswerForm → List ℕ → Mode → Bool → List ℕ → Type 0
+IsListing answer = IsTextOf (listing_output answer)
 
 abbrev pub IsTables : List ℕ → Mode → Bool → List ℕ → Type 0
 IsTables = IsTextOf tables_text
@@ -158,7 +158,7 @@ pub record AreSetsIn (text : List ℕ) (refused : Bool) (output : List ℕ) : Ty
 -- What a command writes in the form of an answer, by the bytes under its files' names, and whether its text reports a refusal.
 abbrev pub IsOutput : AnswerForm → Command → (List ℕ → Option (List ℕ)) → Bool → List ℕ → Type 0
 IsOutput answer (run script keys threads keep_going) told refused output = (script_text keys_text : List ℕ) → told script ≡ Some script_text → told keys ≡ Some keys_text → IsTranscript answer script_text keys_text threads (mode_of keep_going) refused output
-IsOutput answer (list script keep_going) told refused output = (script_text : List ℕ) → told script ≡ Some script_text → IsListing script_text (mode_of keep_going) refused output
+IsOutput answer (list script keep_going) told refused output = (script_text : List ℕ) → told script ≡ Some script_text → IsListing answer script_text (mode_of keep_going) refused output
 IsOutput answer (dump script keep_going) told refused output = (script_text : List ℕ) → told script ≡ Some script_text → IsTables script_text (mode_of keep_going) refused output
 IsOutput answer (stat script keep_going) told refused output = (script_text : List ℕ) → told script ≡ Some script_text → IsStat script_text (mode_of keep_going) refused output
 IsOutput answer (drill seed count threads) told refused output = (refused ≡ false) × (output ≡ drill_text seed count)
@@ -217,7 +217,7 @@ pub record IsOverfull (c : Command) (work : Work) (name : Bor (List ℕ)) : Type
 -- The text of a command's work in the form of an answer, and whether it reports a refusal.
 abbrev pub GivesText : AnswerForm → Work → Bool → List ℕ → Type 0
 GivesText answer (works.Run s packets threads keep_going) refused text = HasTranscript answer s packets threads (mode_of keep_going) text × (refused ≡ has_refusal (mode_of keep_going) s)
-GivesText answer (works.List s keep_going) refused text = (text ≡ listing_text (mode_of keep_going) s) × (refused ≡ has_refusal (mode_of keep_going) s)
+GivesText answer (works.List s keep_going) refused text = (text ≡ listing_output answer (mode_of keep_going) s) × (refused ≡ has_refusal (mode_of keep_going) s)
 GivesText answer (works.Dump s keep_going) refused text = (text ≡ tables_text (mode_of keep_going) s) × (refused ≡ has_refusal (mode_of keep_going) s)
 GivesText answer (works.Stat s keep_going) refused text = (text ≡ stat_text (mode_of keep_going) s) × (refused ≡ has_refusal (mode_of keep_going) s)
 GivesText answer (works.Drill seed count threads) refused text = (text ≡ drill_text seed count) × (refused ≡ false)

@@ -45,7 +45,7 @@ pub fn words_behind(alloc: Global, told: io::Result<Args>) -> Result<Vec<String>
 
 /// Does what the words ask for, and returns the status. With the option `--sets` among the words, the scripts of their
 /// command are rulesets: of each, what is kept is the script. With `--elements` the line of a packet has the element that
-/// was found. If memory ran out for the words, the status is 7: no file is asked for, and nothing is written. The `gate`
+/// was found, and with `--json` the answer is JSON. If memory ran out for the words, the status is 7: no file is asked for, and nothing is written. The `gate`
 /// learns how far the run is.
 pub fn call<R: Threads + Wait + Sync, F: Shelf, K: Sink, N: Notes, G: Gate>(
     rt: &R,

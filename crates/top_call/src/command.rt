@@ -282,7 +282,7 @@ fn carry_out<R: Threads + Wait + Sync, F: Shelf, K: Sink, N: Notes, G: Gate>(
 ///
 /// If the form of the scripts is that of rulesets, each script of these words is a ruleset. What is kept of it is the script, and
 /// `notes` first gets a note on the rest. If the form of the answer has elements, the line of a packet in a `run` or a `capture` has
-/// the element that was found, and the line of the script that added it.
+/// the element that was found, and the line of the script that added it. If it is JSON, a `list` writes JSON.
 ///
 /// Of a `judge`, `notes` then gets the lines on the tests of the rules file that no packet can meet. If memory runs out
 /// for them, the status is 7.

@@ -6,11 +6,12 @@ ghost use Rattle.key_answer.specs.declared.question.AnswerError.TheVariants.{Bad
 ghost use Rattle.set_model.specs.declared.script.SetDecl.{SetDecl as Declared};
 ghost use Rattle.set_model.specs.Control.{mode_of, has_refusal};
 ghost use Rattle.set_model.specs.Runnable.{IsFitting, IsRunnable};
-ghost use Rattle.script_laws.specs.Reports.{IsReportOn};
+ghost use Rattle.script_laws.specs.Reports.{IsReportOn, ends_failed};
 ghost use Rattle.pcap_keys.specs.Fitting.{HasValues, IsPlanned};
 ghost use Rattle.pcap_keys.specs.Planned as planned;
 ghost use Rattle.input_files.specs.Works.{IsDoable};
 ghost use Rattle.top_call.specs.Refused.{GivesRefusals};
+ghost use Rattle.top_call.specs.Texts.{listing_output as listing_text_of};
 ghost use Rattle.top_call.specs.Transcript.{GivesText, HasBadWords, HasFewClerks, HasTranscript, MakesOutput};
 
 use command_words::AnswerForm;
@@ -21,6 +22,7 @@ use element_lines::transcript_with_elements;
 use explain_answer::explain;
 use input_files::Work;
 use key_answer::{AnswerError, get};
+use list_json::listing_json;
 use packet_pool::Gate;
 use pcap_keys::{Frames, Plan, keys_of};
 use script_run::{Output, drill, dump, judged, listing, transcript};
@@ -67,6 +69,27 @@ fn run_output<R: Threads + Sync, G: Gate>(
     }
 }
 
+/// The last generation of a script, in the form of an answer.
+fn listing_output<G: Gate>(
+    alloc: Global,
+    script: Script,
+    keep_going: bool,
+    answer: AnswerForm,
+    gate: &G,
+) -> Result<Output, Memory>
+    requires script { IsRunnable script }
+    ensures text { IfOk result (λ out. out.text.items ≡ listing_text_of answer (mode_of keep_going) script) }
+    ensures refused { IfOk result (λ out. out.refused ≡ has_refusal (mode_of keep_going) script) }
+    ensures report { IfOk result (IsReportOn (mode_of keep_going) script) }
+    ensures failed { IfOk result (λ out. out.failed ≡ ends_failed (mode_of keep_going) script) }
+{
+    if answer.is_json {
+        listing_json(alloc, script, keep_going, gate)
+    } else {
+        listing(alloc, script, keep_going, gate)
+    }
+}
+
 /// The output of a command's work, in the form of an answer. The `gate` learns of each section, step, lookup and commit.
 ///
 /// # Errors
@@ -92,10 +115,10 @@ pub fn output_of<R: Threads + Wait + Sync, G: Gate>(
             keys,
             threads,
             keep_going,
-        } => Ok(run_output(
-            rt, alloc, script, &keys, keep_going, threads, answer, gate,
+        } => Ok(run_output(rt, alloc, script, &keys, keep_going, threads, answer, gate)?),
+        Work::List { script, keep_going } => Ok(listing_output(
+            alloc, script, keep_going, answer, gate,
         )?),
-        Work::List { script, keep_going } => Ok(listing(alloc, script, keep_going, gate)?),
         Work::Dump { script, keep_going } => Ok(dump(alloc, script, keep_going, gate)?),
         Work::Stat { script, keep_going } => Ok(stat(alloc, script, keep_going, gate)?),
         Work::Drill {
@@ -111,9 +134,7 @@ pub fn output_of<R: Threads + Wait + Sync, G: Gate>(
             keep_going,
         } => {
             let keys = captured(alloc, &plan, &frames)?;
-            Ok(run_output(
-                rt, alloc, script, &keys, keep_going, threads, answer, gate,
-            )?)
+            Ok(run_output(rt, alloc, script, &keys, keep_going, threads, answer, gate)?)
         }
         Work::Judge {
             script,

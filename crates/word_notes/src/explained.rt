@@ -239,7 +239,7 @@ fn without_option(verb: Verb) -> &'static [u8] {
 fn explain_no_option(said: &mut Explained, verb: Verb, option: &str) -> Result<(), Memory> {
     let mut near: &[&[u8]] = &OPTIONS;
     if !takes(verb, b"--at") {
-        near = &OPTIONS[..4];
+        near = &OPTIONS[..5];
     }
     match long_option(verb, option.as_bytes()) {
         Some(long) => said.tell(

@@ -56,17 +56,18 @@ pub(crate) fn may_name(verb: Verb, place: usize) -> bool {
 }
 
 /// The options of all commands.
-pub(crate) const OPTIONS: [&[u8]; 5] = [
+pub(crate) const OPTIONS: [&[u8]; 6] = [
     b"--threads",
     b"--keep-going",
     b"--sets",
     b"--elements",
+    b"--json",
     b"--at",
 ];
 
 /// Whether an option says in which form scripts are given or the answer is written.
 pub(crate) fn is_of_form(option: &str) -> bool {
-    matches!(option, "--sets" | "--elements")
+    matches!(option, "--sets" | "--elements" | "--json")
 }
 
 /// Whether an option takes a value.
